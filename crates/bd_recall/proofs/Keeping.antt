@@ -1,100 +1,133 @@
 -- What is kept after a key was put or removed.
 use Rattle.std.proofs.Common.{◌≡◌, ◌⊎◌, ℕ, zero, suc, Bool, true, false, cond, List, [], ◌∷◌, ◌++◌, length, drop, get_or, ◌+◌, ◌<◌, inl, inr, refl, sym, ap, ◌∙◌, subst, Ordering, Less, Equal, Greater}
-use Rattle.std.specs.Prelude.{Option, Some, None, IfSome, IsSome, is_some}
-use Rattle.std.specs.BTreeMap.{BTreeMap, is_at}
+use Rattle.std.specs.Prelude.{Option, Some, None, IfSome, IsSome, is_some, ⊤}
+use Rattle.std.specs.BTreeMap.{BTreeMap, insert_entry, is_at}
 use Rattle.std.specs.BTreeMap.Range.{IsEntryInRange, IsRangeOf}
 use Rattle.std.specs.List.{slice_get}
 use Rattle.std.specs.declared.ops.Bound.TheVariants.{Included, Unbounded}
-use Rattle.std.specs.Map.{lookup}
-use Rattle.std.specs.Ordering.{is_eq, is_gt, ordering_reverse}
+use Rattle.std.specs.Map.{lookup, lookup_key, remove_entry}
+use Rattle.std.specs.Ordering.{is_eq, is_gt, match_ordering, ordering_reverse}
 use Rattle.std.specs.Option.{option_map}
-use Rattle.std.specs.declared.alloc.Global.{Global}
-use Rattle.std.specs.declared.vec.Vec.{Vec}
 use Rattle.std.proofs.lemmas.List.{append-nil}
 use Rattle.std.proofs.lemmas.Cmp.{nat_list_cmp_total as total}
 use Rattle.bd_keys.specs.Keys.{key_cmp}
 use Rattle.bd_keys.proofs.Order.{key_cmp-front}
 use Rattle.bd_message.specs.Effect.{act, acts, begins, no_nodes, rest, same_key}
 use Rattle.bd_message.specs.declared.message.Message.{Message}
-use Rattle.bd_message.proofs.Finds.{same_key-true, same_key-refl, ties_same, tied, begins-is, begins-append, not_both, acts_more}
+use Rattle.bd_message.proofs.Finds.{same_key-refl, ties_same, tied, begins-is, begins-append, not_both, acts_more}
 use Rattle.bd_message.proofs.Prefixes.{joined_other}
-use Rattle.bd_recall.specs.Kept.{Key, Findings, bytes_of, kept_for, KeepsFewer, KeepsOthers, KeepsInstead, KeepsWritten}
+use Rattle.bd_recall.specs.Kept.{Found, Findings, kept_for, KeepsFewer, KeepsOthers, KeepsInstead, KeepsWritten}
 
--- what is found in a table for a key
-abbrev pub found_in : Findings → List ℕ → Option (Option (Vec ℕ Global))
-found_in fs k = lookup (is_at (λ key. key_cmp k key.items)) fs
+-- whether what was found was found at a key
+abbrev pub at_key : List ℕ → Found → Bool
+at_key k = is_at (λ f. key_cmp k f.0)
+
+-- what is found in a table at a key
+abbrev pub found_in : Findings → List ℕ → Option Found
+found_in fs k = lookup_key (at_key k) fs
+
+-- a table with what was found put in
+abbrev pub put_in : Findings → Found → Findings
+put_in fs f = insert_entry (λ (a b : Found). key_cmp a.0 b.0) fs f tt
 
 pub same_order : (o : Ordering) → is_eq o ≡ true → o ≡ Equal
 same_order Less h = cc
 same_order Equal h = refl
 same_order Greater h = cc
 
--- a key that is found stands in the table
-stored : (k : List ℕ) (fs : Findings) (v : Option (Vec ℕ Global)) → found_in fs k ≡ Some v → (q : Key) × (q.items ≡ k)
-stored k [] v h = cc
-stored k (e ∷ fs) v h = by (is_eq (key_cmp k e.0.items)) refl (stored k fs v) h
+-- a key that is found has an entry
+found_alike : (fs : Findings) (k : List ℕ) → is_some (found_in fs k) ≡ is_some (lookup (at_key k) fs)
+found_alike [] k = refl
+found_alike (e ∷ fs) k = by (is_eq (key_cmp k e.0.0)) (found_alike fs k)
   where
-    Stored : Type 0
-    Stored = (q : Key) × (q.items ≡ k)
+    by : (b : Bool) → is_some (found_in fs k) ≡ is_some (lookup (at_key k) fs) → is_some (cond b (Some e.0) (found_in fs k)) ≡ is_some (cond b (Some e.1) (lookup (at_key k) fs))
+    by true later = refl
+    by false later = later
 
-    by : (b : Bool) → is_eq (key_cmp k e.0.items) ≡ b → (found_in fs k ≡ Some v → Stored) → cond b (Some e.1) (found_in fs k) ≡ Some v → Stored
-    by true same later here = (e.0, sym (tied k e.0.items (same_order (key_cmp k e.0.items) same)))
-    by false other later there = later there
+none_of : {A : Type 0} (o : Option A) → is_some o ≡ false → o ≡ None
+none_of None h = refl
+none_of (Some x) h = cc
 
--- what holds at each key that can stand there holds at all
-pub at_all : (fs : Findings) (P : List ℕ → Option (List ℕ) → Type 0) → ((q : Key) → IfSome (kept_for fs q.items) (P q.items)) → (k : List ℕ) → IfSome (kept_for fs k) (P k)
-at_all fs P h k = by (found_in fs k) refl
+-- nothing is kept where nothing is found
+pub not_found : (fs : Findings) (k : List ℕ) → lookup (at_key k) fs ≡ None → found_in fs k ≡ None
+not_found fs k none = none_of (found_in fs k) (found_alike fs k ∙ ap is_some none)
+
+pub not_kept : (fs : Findings) (k : List ℕ) → kept_for fs k ≡ None → found_in fs k ≡ None
+not_kept fs k none = by (found_in fs k) refl
   where
-    by : (o : Option (Option (Vec ℕ Global))) → found_in fs k ≡ o → IfSome (kept_for fs k) (P k)
-    by None is = subst (λ (o : Option (Option (Vec ℕ Global))). IfSome (option_map bytes_of o) (P k)) (sym is) tt
-    by (Some v) is =
-        let s : (q : Key) × (q.items ≡ k) = stored k fs v is in
-        subst (λ (l : List ℕ). IfSome (kept_for fs l) (P l)) s.1 (h s.0)
+    by : (o : Option Found) → found_in fs k ≡ o → found_in fs k ≡ None
+    by None is = is
+    by (Some f) is = let e : Some f.1 ≡ None = ap (option_map (λ (x : Found). x.1)) (sym is) ∙ none in cc
 
--- keys that differ, asked the other way round
-apart : (k q : List ℕ) → same_key k q ≡ false → same_key q k ≡ false
-apart k q other = by (same_key q k) refl
+-- ---- one put in
+
+found_put : (fs : Findings) (f : Found) (q : List ℕ) → found_in fs f.0 ≡ None → found_in (put_in fs f) q ≡ cond (is_eq (key_cmp q f.0)) (Some f) (found_in fs q)
+found_put [] f q none = refl
+found_put (e ∷ fs) f q none = by (key_cmp f.0 e.0.0) refl (found_put fs f q) none
   where
-    by : (b : Bool) → same_key q k ≡ b → b ≡ false
-    by true same = absurd (not_both (ap (same_key k) (same_key-true q k same) ∙ same_key-refl k) other)
-    by false same = refl
+    -- the key that is put in isn't the one that stands here
+    later_on : key_cmp f.0 e.0.0 ≡ Greater → (b : Bool) → is_eq (key_cmp q f.0) ≡ b → found_in (put_in fs f) q ≡ cond b (Some f) (found_in fs q)
+        → cond (is_eq (key_cmp q e.0.0)) (Some e.0) (found_in (put_in fs f) q) ≡ cond b (Some f) (cond (is_eq (key_cmp q e.0.0)) (Some e.0) (found_in fs q))
+    later_on is true same later =
+        let key : q ≡ f.0 = tied q f.0 (same_order (key_cmp q f.0) same) in
+        ap (λ (b : Bool). cond b (Some e.0) (found_in (put_in fs f) q)) (ap (λ (l : List ℕ). is_eq (key_cmp l e.0.0)) key ∙ ap is_eq is) ∙ later
+    later_on is false other later = ap (cond (is_eq (key_cmp q e.0.0)) (Some e.0)) later
 
--- after a value was put for a key
-pub kept_put : (old new : Findings) (k : Key) (v : Option (Vec ℕ Global)) (value : Option (List ℕ)) → bytes_of v ≡ value
-    → ((q : Key) → found_in new q.items ≡ cond (is_eq (key_cmp k.items q.items)) (Some v) (found_in old q.items)) → KeepsInstead old k.items value new
-kept_put old new k v value is h = at_all new P (λ q. by q (is_eq (key_cmp k.items q.items)) refl (h q))
+    by : (o : Ordering) → key_cmp f.0 e.0.0 ≡ o → (found_in fs f.0 ≡ None → found_in (put_in fs f) q ≡ cond (is_eq (key_cmp q f.0)) (Some f) (found_in fs q))
+        → cond (is_eq o) (Some e.0) (found_in fs f.0) ≡ None
+        → found_in (match_ordering o ((f, tt) ∷ e ∷ fs) ((e.0, tt) ∷ fs) (e ∷ put_in fs f)) q ≡ cond (is_eq (key_cmp q f.0)) (Some f) (cond (is_eq (key_cmp q e.0.0)) (Some e.0) (found_in fs q))
+    by Less is later none = refl
+    by Equal is later none = cc
+    by Greater is later none = later_on is (is_eq (key_cmp q f.0)) refl (later none)
+
+-- after a value was put for a key that had none
+pub kept_put : (old : Findings) (k : List ℕ) (v : Option (List ℕ)) → found_in old k ≡ None → KeepsInstead old k v (put_in old (k, v))
+kept_put old k v none q = by (is_eq (key_cmp q k)) refl (found_put old (k, v) q none)
   where
-    P : List ℕ → Option (List ℕ) → Type 0
-    P q found = ((kept_for old q ≡ Some found) × (same_key q k.items ≡ false)) ⊎ ((q ≡ k.items) × (found ≡ value))
+    P : Option (List ℕ) → Type 0
+    P found = ((kept_for old q ≡ Some found) × (same_key q k ≡ false)) ⊎ ((q ≡ k) × (found ≡ v))
 
-    was : (q : Key) → same_key q.items k.items ≡ false → (o : Option (Option (Vec ℕ Global))) → found_in old q.items ≡ o → IfSome (option_map bytes_of o) (P q.items)
-    was q other None there = tt
-    was q other (Some found) there = inl (ap (option_map bytes_of) there, other)
+    was : same_key q k ≡ false → (o : Option Found) → found_in old q ≡ o → IfSome (option_map (λ (f : Found). f.1) o) P
+    was other None there = tt
+    was other (Some f) there = inl (ap (option_map (λ (x : Found). x.1)) there, other)
 
-    by : (q : Key) (b : Bool) → is_eq (key_cmp k.items q.items) ≡ b → found_in new q.items ≡ cond b (Some v) (found_in old q.items) → IfSome (kept_for new q.items) (P q.items)
-    by q true same put =
-        subst (λ (o : Option (Option (Vec ℕ Global))). IfSome (option_map bytes_of o) (P q.items)) (sym put)
-        (inr (sym (tied k.items q.items (same_order (key_cmp k.items q.items) same)), is))
-    by q false other put =
-        subst (λ (o : Option (Option (Vec ℕ Global))). IfSome (option_map bytes_of o) (P q.items)) (sym put)
-        (was q (apart k.items q.items (sym (ties_same k.items q.items) ∙ other)) (found_in old q.items) refl)
+    by : (b : Bool) → is_eq (key_cmp q k) ≡ b → found_in (put_in old (k, v)) q ≡ cond b (Some (k, v)) (found_in old q) → IfSome (kept_for (put_in old (k, v)) q) P
+    by true same put = subst (λ (o : Option Found). IfSome (option_map (λ (f : Found). f.1) o) P) (sym put) (inr (tied q k (same_order (key_cmp q k) same), refl))
+    by false other put = subst (λ (o : Option Found). IfSome (option_map (λ (f : Found). f.1) o) P) (sym put) (was (sym (ties_same q k) ∙ other) (found_in old q) refl)
+
+-- ---- one removed
+
+found_other : (fs : Findings) (k q : List ℕ) → is_eq (key_cmp q k) ≡ false → found_in (remove_entry (at_key k) fs) q ≡ found_in fs q
+found_other [] k q other = refl
+found_other (e ∷ fs) k q other = by (is_eq (key_cmp k e.0.0)) refl (found_other fs k q other)
+  where
+    left : Findings
+    left = remove_entry (at_key k) fs
+
+    by : (b : Bool) → is_eq (key_cmp k e.0.0) ≡ b → found_in left q ≡ found_in fs q → found_in (cond b fs (e ∷ left)) q ≡ cond (is_eq (key_cmp q e.0.0)) (Some e.0) (found_in fs q)
+    by true same later =
+        let key : k ≡ e.0.0 = tied k e.0.0 (same_order (key_cmp k e.0.0) same) in
+        sym (ap (λ (b : Bool). cond b (Some e.0) (found_in fs q)) (ap (λ (l : List ℕ). is_eq (key_cmp q l)) (sym key) ∙ other))
+    by false apart later = ap (cond (is_eq (key_cmp q e.0.0)) (Some e.0)) later
 
 -- after a key was removed
-pub kept_removed : (old new : Findings) (k : List ℕ) → ((q : Key) → found_in new q.items ≡ cond (is_eq (key_cmp k q.items)) None (found_in old q.items)) → KeepsOthers old k new
-kept_removed old new k h = at_all new P (λ q. by q (is_eq (key_cmp k q.items)) refl (h q))
+pub kept_removed : (old new : Findings) (k : List ℕ) → new ≡ remove_entry (at_key k) old → lookup (at_key k) new ≡ None → KeepsOthers old k new
+kept_removed old new k out none q = by (is_eq (key_cmp q k)) refl
   where
-    P : List ℕ → Option (List ℕ) → Type 0
-    P q found = (kept_for old q ≡ Some found) × (same_key q k ≡ false)
+    P : Option (List ℕ) → Type 0
+    P found = (kept_for old q ≡ Some found) × (same_key q k ≡ false)
 
-    was : (q : Key) → same_key q.items k ≡ false → (o : Option (Option (Vec ℕ Global))) → found_in old q.items ≡ o → IfSome (option_map bytes_of o) (P q.items)
-    was q other None there = tt
-    was q other (Some found) there = (ap (option_map bytes_of) there, other)
+    was : same_key q k ≡ false → (o : Option Found) → found_in old q ≡ o → IfSome (option_map (λ (f : Found). f.1) o) P
+    was other None there = tt
+    was other (Some f) there = (ap (option_map (λ (x : Found). x.1)) there, other)
 
-    by : (q : Key) (b : Bool) → is_eq (key_cmp k q.items) ≡ b → found_in new q.items ≡ cond b None (found_in old q.items) → IfSome (kept_for new q.items) (P q.items)
-    by q true same gone = subst (λ (o : Option (Option (Vec ℕ Global))). IfSome (option_map bytes_of o) (P q.items)) (sym gone) tt
-    by q false other gone =
-        subst (λ (o : Option (Option (Vec ℕ Global))). IfSome (option_map bytes_of o) (P q.items)) (sym gone)
-        (was q (apart k q.items (sym (ties_same k q.items) ∙ other)) (found_in old q.items) refl)
+    by : (b : Bool) → is_eq (key_cmp q k) ≡ b → IfSome (kept_for new q) P
+    by true same =
+        let gone : found_in new q ≡ None = ap (found_in new) (tied q k (same_order (key_cmp q k) same)) ∙ not_found new k none in
+        subst (λ (o : Option Found). IfSome (option_map (λ (f : Found). f.1) o) P) (sym gone) tt
+    by false other =
+        let stays : found_in new q ≡ found_in old q = ap (λ (fs : Findings). found_in fs q) out ∙ found_other old k q other in
+        subst (λ (o : Option Found). IfSome (option_map (λ (f : Found). f.1) o) P) (sym stays) (was (sym (ties_same q k) ∙ other) (found_in old q) refl)
 
 -- ---- one after the other
 
@@ -123,6 +156,25 @@ instead_after a b c k value fewer h q = each c q Has (λ found is. by found (if_
     by : (found : Option (List ℕ)) → Had found → Has found
     by found (inl was) = inl (if_some (kept_for b q) (λ f. kept_for a q ≡ Some f) found was.0 (fewer q), was.1)
     by found (inr is) = inr is
+
+-- where a key was forgotten, and others after it
+pub none_left : (a b c : Findings) (k : List ℕ) → KeepsOthers a k b → KeepsFewer b c → found_in c k ≡ None
+none_left a b c k others fewer = by (kept_for c k) refl (fewer k)
+  where
+    by : (o : Option (Option (List ℕ))) → kept_for c k ≡ o → IfSome o (λ found. kept_for b k ≡ Some found) → found_in c k ≡ None
+    by None is was = not_kept c k is
+    by (Some found) is was = absurd (not_both (same_key-refl k) ((if_some (kept_for b k) (λ f. (kept_for a k ≡ Some f) × (same_key k k ≡ false)) found was (others k)).1))
+
+pub fewer_after : (a b c : Findings) (k : List ℕ) → KeepsOthers a k b → KeepsFewer b c → KeepsFewer a c
+fewer_after a b c k others fewer q = each c q (λ found. kept_for a q ≡ Some found) (λ found is.
+    let was : kept_for b q ≡ Some found = if_some (kept_for c q) (λ f. kept_for b q ≡ Some f) found is (fewer q) in
+    (if_some (kept_for b q) (λ f. (kept_for a q ≡ Some f) × (same_key q k ≡ false)) found was (others q)).0)
+
+-- one put in where its key was forgotten before
+pub put_after : (a b c : Findings) (f : Found) (k : List ℕ) (v : Option (List ℕ)) → f ≡ (k, v) → KeepsOthers a f.0 b → KeepsFewer b c → KeepsInstead a k v (put_in c f)
+put_after a b c f k v is others fewer =
+    let forgot : KeepsOthers a k b = subst (λ (x : Found). KeepsOthers a x.0 b) is others in
+    subst (λ (x : Found). KeepsInstead a k v (put_in c x)) (sym is) (instead_after a c (put_in c (k, v)) k v (fewer_after a b c k forgot fewer) (kept_put c k v (none_left a b c k forgot fewer)))
 
 -- ---- messages
 
@@ -191,40 +243,43 @@ not_before p q inside =
     least (b ∷ l) = refl
 
 -- what begins with a prefix is at least the first key that isn't below it
-pub none_within : (fs : Findings) (p : List ℕ) → ((q : Key) → is_gt (key_cmp p q.items) ≡ false → IsSome (found_in fs q.items) → begins q.items p ≡ true → ⊥)
+pub none_within : (fs : Findings) (p : List ℕ) → ((q : List ℕ) → is_gt (key_cmp p q) ≡ false → IsSome (found_in fs q) → begins q p ≡ true → ⊥)
     → (k : List ℕ) → IfSome (kept_for fs k) (λ _. begins k p ≡ false)
-none_within fs p h = at_all fs (λ k _. begins k p ≡ false) (λ q. by q (found_in fs q.items) refl)
+none_within fs p h k = by (found_in fs k) refl
   where
-    out : (q : Key) → IsSome (found_in fs q.items) → (b : Bool) → begins q.items p ≡ b → b ≡ false
-    out q there true inside = absurd (h q (not_before p q.items inside) there inside)
-    out q there false is = refl
+    out : IsSome (found_in fs k) → (b : Bool) → begins k p ≡ b → b ≡ false
+    out there true inside = absurd (h k (not_before p k inside) there inside)
+    out there false is = refl
 
-    by : (q : Key) (o : Option (Option (Vec ℕ Global))) → found_in fs q.items ≡ o → IfSome (option_map bytes_of o) (λ _. begins q.items p ≡ false)
-    by q None is = tt
-    by q (Some v) is = out q (subst (λ (o : Option (Option (Vec ℕ Global))). IsSome o) (sym is) refl) (begins q.items p) refl
+    by : (o : Option Found) → found_in fs k ≡ o → IfSome (option_map (λ (f : Found). f.1) o) (λ _. begins k p ≡ false)
+    by None is = tt
+    by (Some f) is = out (subst (λ (o : Option Found). IsSome o) (sym is) refl) (begins k p) refl
+
+has_value : (o : Option Found) → IsSome o → IsSome (option_map (λ (f : Found). f.1) o)
+has_value None there = cc
+has_value (Some f) there = refl
 
 -- the table from a prefix on
-module _ (m : BTreeMap Key (Option (Vec ℕ Global))) (p : Key) (r : Findings) (range : IsRangeOf (λ (a b : Key). key_cmp a.items b.items) (Included p) Unbounded m r) where
-  first_is : (e : Key × Option (Vec ℕ Global)) (t : Findings) → r ≡ e ∷ t → IsEntryInRange (λ (a b : Key). key_cmp a.items b.items) (Included p) Unbounded m e
-  first_is e t is = subst (λ (l : Findings). IfSome (slice_get l 0) (IsEntryInRange (λ (a b : Key). key_cmp a.items b.items) (Included p) Unbounded m)) is range.1
+module _ (m : BTreeMap Found ⊤) (p : Found) (r : Findings) (range : IsRangeOf (λ (a b : Found). key_cmp a.0 b.0) (Included p) Unbounded m r) where
+  first_is : (e : Found × ⊤) (t : Findings) → r ≡ e ∷ t → IsEntryInRange (λ (a b : Found). key_cmp a.0 b.0) (Included p) Unbounded m e
+  first_is e t is = subst (λ (l : Findings). IfSome (slice_get l 0) (IsEntryInRange (λ (a b : Found). key_cmp a.0 b.0) (Included p) Unbounded m)) is range.1
 
   -- its first key is kept
-  pub first_kept : (e : Key × Option (Vec ℕ Global)) (t : Findings) → r ≡ e ∷ t → (k : List ℕ) → k ≡ e.0.items → IsSome (kept_for m.entries k)
+  pub first_kept : (e : Found × ⊤) (t : Findings) → r ≡ e ∷ t → (k : List ℕ) → k ≡ e.0.0 → IsSome (kept_for m.entries k)
   first_kept e t is k same =
-      let here : found_in m.entries k ≡ Some e.1 = ap (found_in m.entries) same ∙ (first_is e t is).1 in
-      subst (λ (o : Option (Option (Vec ℕ Global))). IsSome (option_map bytes_of o)) (sym here) refl
+      has_value (found_in m.entries k) (ap (λ (l : List ℕ). is_some (found_in m.entries l)) same ∙ found_alike m.entries e.0.0 ∙ ap is_some (first_is e t is).1)
 
   -- where that doesn't begin with it, none does
-  pub first_outside : (e : Key × Option (Vec ℕ Global)) (t : Findings) → r ≡ e ∷ t → begins e.0.items p.items ≡ false
-      → (k : List ℕ) → IfSome (kept_for m.entries k) (λ _. begins k p.items ≡ false)
+  pub first_outside : (e : Found × ⊤) (t : Findings) → r ≡ e ∷ t → begins e.0.0 p.0 ≡ false
+      → (k : List ℕ) → IfSome (kept_for m.entries k) (λ _. begins k p.0 ≡ false)
   first_outside e t is out =
-      none_within m.entries p.items (λ q from there inside.
-      let least : is_gt (key_cmp e.0.items q.items) ≡ false = subst (λ (l : Findings). IfSome (slice_get l 0) (λ x. is_gt (key_cmp x.0.items q.items) ≡ false)) is (range.2 q (from, tt) there) in
-      not_both (between p.items e.0.items q.items (first_is e t is).0.0 least inside) out)
+      none_within m.entries p.0 (λ q from there inside.
+      let least : is_gt (key_cmp e.0.0 q) ≡ false = subst (λ (l : Findings). IfSome (slice_get l 0) (λ x. is_gt (key_cmp x.0.0 q) ≡ false)) is (range.2 (q, None) (from, tt) (sym (found_alike m.entries q) ∙ there)) in
+      not_both (between p.0 e.0.0 q (first_is e t is).0.0 least inside) out)
 
   -- nor where it is empty
-  pub none_outside : r ≡ [] → (k : List ℕ) → IfSome (kept_for m.entries k) (λ _. begins k p.items ≡ false)
+  pub none_outside : r ≡ [] → (k : List ℕ) → IfSome (kept_for m.entries k) (λ _. begins k p.0 ≡ false)
   none_outside is =
-      none_within m.entries p.items (λ q from there inside.
-      let none : found_in m.entries q.items ≡ None = range.5 is q (from, tt) in
-      not_both (sym (ap is_some none) ∙ there) refl)
+      none_within m.entries p.0 (λ q from there inside.
+      let none : lookup (at_key q) m.entries ≡ None = range.5 is (q, None) (from, tt) in
+      not_both (sym (found_alike m.entries q) ∙ there) (ap is_some none))

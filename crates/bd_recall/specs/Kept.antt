@@ -1,13 +1,13 @@
 -- What is kept of look-ups.
 use Rattle.std.specs.Prelude.{◌≡◌, ◌⊎◌, ℕ, Bool, not, false, ◌&&◌, List, [], Option, None, Some, IfSome}
 use Rattle.std.specs.BTreeMap.{is_at}
-use Rattle.std.specs.Map.{lookup}
+use Rattle.std.specs.Map.{lookup_key}
 use Rattle.std.specs.Option.{option_map}
 use Rattle.bd_keys.specs.Keys.{IsKey, key_cmp}
 use Rattle.bd_message.specs.KeyMaps.{At}
 use Rattle.bd_message.specs.Effect.{acts, begins, no_nodes, same_key}
 use Rattle.bd_message.specs.declared.message.Message.{Message}
-pub use Rattle.bd_recall.specs.Sizes.{Key, Findings, bytes_of}
+pub use Rattle.bd_recall.specs.Sizes.{Found, Findings, bytes_of}
 use Rattle.bd_recall.specs.declared.recalled.Recalled.{Recalled}
 
 -- what is kept
@@ -16,7 +16,7 @@ findings r = r.found.entries
 
 -- what is kept for a key, that it was found with a value or with none
 abbrev pub kept_for : Findings → List ℕ → Option (Option (List ℕ))
-kept_for fs k = option_map bytes_of (lookup (is_at (λ key. key_cmp k key.items)) fs)
+kept_for fs k = option_map (λ f. f.1) (lookup_key (is_at (λ f. key_cmp k f.0)) fs)
 
 -- what is kept is what stands there
 abbrev pub IsKept : At → Findings → Type 0

@@ -1,2 +1,4 @@
 pub mod Kept
+pub mod Layout
 pub mod Sizes
+pub mod Stores

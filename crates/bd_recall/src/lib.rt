@@ -3,6 +3,8 @@
 //! the change.
 #![tactic(auto)]
 
+mod finding;
+mod packed;
 mod recalled;
 mod recalling;
 

@@ -3,35 +3,38 @@
 ghost use Rattle.std.specs.Prelude.{◌≡◌, ◌≤◌, ◌<◌, ◌+◌, ◌↔◌, List, ℕ, length, IsTrue, IfOk};
 ghost use Rattle.std.specs.Option.{option_copied};
 ghost use Rattle.bd_limits.specs.Limits.{key_limit};
-ghost use Rattle.bd_recall.specs.Sizes.{bytes_of, bytes_kept, bytes_limit, count_limit, entry_size, size_before, value_limit, value_size};
+ghost use Rattle.bd_recall.specs.Sizes.{bytes_of, bytes_kept, bytes_limit, entry_size, size_before, value_limit, value_size};
 
+use crate::finding::Finding;
 use bd_limits::MAX_KEY;
 use bd_message::Message;
 use std::alloc::{AllocError, Global};
 use std::collections::BTreeMap;
 
-// How many keys are kept at most.
-const MAX_COUNT: usize = 131_072;
-
-// How many bytes they and their values count at most, 128 and its bytes an entry.
-const MAX_BYTES: usize = 16_777_216;
+// How many bytes all that is kept counts at most.
+const MAX_BYTES: usize = 8_388_608;
 
 // How many bytes a value has at most that is kept.
 const MAX_VALUE: usize = 64;
 
-// What an entry counts beside its bytes.
-const ENTRY_BASE: usize = 128;
+// Below how many bytes a key and its value lie in the entry's own place.
+const NEAR: usize = 31;
+
+// What such an entry counts.
+const NEAR_SIZE: usize = 72;
+
+// What another entry counts beside its bytes.
+const FAR_BASE: usize = 96;
 
 /// What was found at keys when they were looked up, or was written there: for a key of at most 518
-/// bytes a value of at most 64 bytes, or none. It keeps at most 131,072 keys, and what these count
-/// is at most 16,777,216 bytes: each 128, its bytes and its value's. Where the next one would be
-/// more, it is emptied first. Where there is no memory, it keeps less.
+/// bytes a value of at most 64 bytes, or none. What all of it counts is at most 8,388,608 bytes: an
+/// entry of at most 30 bytes, with its value's, counts 72, and another one 96 and its bytes. Where
+/// the next one would be more, it is emptied first. Where there is no memory, it keeps less.
 #[derive(Drop)]
 pub struct Recalled {
     alloc: Global,
-    found: BTreeMap<Vec<u8>, Option<Vec<u8>>>,
+    found: BTreeMap<Finding, ()>,
     taken: usize,
-    ghost few: { length found.entries ≤ count_limit },
     ghost counted: { bytes_kept found.entries ≡ taken },
     ghost small: { taken ≤ bytes_limit },
 }
@@ -58,10 +61,10 @@ impl Recalled {
         ensures { IfOk result (λ found.
             option_map bytes_of found ≡ kept_for (findings self.now) key.now) }
     {
-        match self.found.get(key) {
+        let asked = Finding::new(self.alloc, key, None)?;
+        match self.found.get_key_value(&asked) {
             None => Ok(None),
-            Some(None) => Ok(Some(None)),
-            Some(Some(value)) => Ok(Some(Some(value.clone()?))),
+            Some((found, _)) => Ok(Some(copied(self.alloc, found.value())?)),
         }
     }
 
@@ -101,38 +104,24 @@ impl Recalled {
             (option_copied value.entry) (findings self.new)) }
         ensures fewer { OnErr result (KeepsFewer (findings self.old) (findings self.new)) }
     {
+        let finding = Finding::new(self.alloc, key, value)?;
+        self.take_out(&finding);
         let size = size_of(key, value);
-        self.make_room(key, size);
-        let copy = Vec::from_slice(self.alloc, key)?;
-        let value = copied(self.alloc, value)?;
-        let replaced = self.found.insert(copy, value)?;
+        self.make_room(size);
+        self.found.insert(finding, ())?;
         self.taken += size;
-        self.taken -= size_before(key, &replaced);
         Ok(())
     }
 
-    // Empties it where there is no room for an entry of a key, in place of what is there for it.
-    fn make_room(&mut self, key: &[u8], size: usize)
+    // Empties it where there is no room for an entry of this size.
+    fn make_room(&mut self, size: usize)
         requires { size ≤ bytes_limit }
-        ensures count { length (findings self.new) < count_limit }
         ensures size { self.new.taken + size ≤ bytes_limit }
         ensures fewer { KeepsFewer (findings self.old) (findings self.new) }
     {
-        if !self.has_room(size) {
-            self.forget(key);
-            if !self.has_room(size) {
-                self.clear();
-            }
+        if self.taken > MAX_BYTES - size {
+            self.clear();
         }
-    }
-
-    // Whether there is room for one entry more.
-    fn has_room(&self, size: usize) -> bool
-        requires { size ≤ bytes_limit }
-        ensures { IsTrue result ↔ ((length (findings self.now) < count_limit)
-            × (self.now.taken + size ≤ bytes_limit)) }
-    {
-        self.found.len() < MAX_COUNT && self.taken <= MAX_BYTES - size
     }
 
     /// Keeps what is known after these messages: what they leave at keys whose values they put or
@@ -182,37 +171,47 @@ impl Recalled {
     fn forget_each(&mut self, prefix: &[u8]) -> Result<(), AllocError>
         ensures { OnOk result (KeepsOutside (findings self.old) prefix.now (findings self.new)) }
     {
-        let prefix = Vec::from_slice(self.alloc, prefix)?;
-        while let Some(key) = self.first_within(&prefix)? {
-            self.forget(&key);
+        let prefix = Finding::new(self.alloc, prefix, None)?;
+        while let Some(found) = self.first_within(&prefix)? {
+            self.take_out(&found);
         }
         Ok(())
     }
 
     // A key that is kept and begins with a prefix.
-    fn first_within(&self, prefix: &Vec<u8>) -> Result<Option<Vec<u8>>, AllocError>
-        ensures found { IfOk result (λ found. IfSome found (λ key.
-            IsSome (kept_for (findings self.now) key.items))) }
+    fn first_within(&self, prefix: &Finding) -> Result<Option<Finding>, AllocError>
+        ensures found { IfOk result (λ found. IfSome found (λ f.
+            IsSome (kept_for (findings self.now) f.0))) }
         ensures none { IfOk result (λ found. IfNone found ((k : List ℕ)
-            → IfSome (kept_for (findings self.now) k) (λ _. begins k prefix.now.items ≡ false))) }
+            → IfSome (kept_for (findings self.now) k) (λ _. begins k prefix.now.0 ≡ false))) }
     {
-        let front = prefix.as_slice();
+        let front = prefix.key();
         match self.found.range(prefix..).next() {
-            Some((key, _)) if key.as_slice().starts_with(front) => {
-                Ok(Some(Vec::from_slice(self.alloc, key.as_slice())?))
+            Some((found, _)) if found.key().starts_with(front) => {
+                Ok(Some(Finding::new(self.alloc, found.key(), None)?))
             }
             _ => Ok(None),
         }
     }
 
-    // Keeps nothing for a key any more.
+    // Keeps nothing for a key any more; where there is no memory, nothing at all.
     fn forget(&mut self, key: &[u8])
-        ensures others { KeepsOthers (findings self.old) key.now (findings self.new) }
-        ensures fewer { IsSome (kept_for (findings self.old) key.now)
+        ensures { KeepsOthers (findings self.old) key.now (findings self.new) }
+    {
+        match Finding::new(self.alloc, key, None) {
+            Ok(asked) => self.take_out(&asked),
+            Err(_) => self.clear(),
+        }
+    }
+
+    // Keeps nothing any more for the key that this one has.
+    fn take_out(&mut self, asked: &Finding)
+        ensures others { KeepsOthers (findings self.old) asked.now.0 (findings self.new) }
+        ensures fewer { IsSome (kept_for (findings self.old) asked.now.0)
             → length (findings self.new) < length (findings self.old) }
     {
-        let removed = self.found.remove(key);
-        self.taken -= size_before(key, &removed);
+        let removed = self.found.remove_entry(asked);
+        self.taken -= size_before(&removed);
     }
 
     /// Keeps nothing any more.
@@ -248,17 +247,22 @@ fn size_of(key: &[u8], value: Option<&[u8]>) -> usize
     requires { entry_size key.now (option_copied value) ≤ bytes_limit }
     ensures { result ≡ entry_size key.now (option_copied value.entry) }
 {
-    ENTRY_BASE + key.len() + value_len(value)
+    let size = key.len() + value_len(value);
+    if size < NEAR {
+        NEAR_SIZE
+    } else {
+        FAR_BASE + size
+    }
 }
 
-// How many bytes what was kept for a key counts, none where nothing was.
-fn size_before(key: &[u8], found: &Option<Option<Vec<u8>>>) -> usize
-    requires { size_before key.now found.now ≤ bytes_limit }
-    ensures { result ≡ size_before key.now found.now }
+// How many bytes what was kept counts, none where nothing was.
+fn size_before(found: &Option<(Finding, ())>) -> usize
+    requires { size_before found.now ≤ bytes_limit }
+    ensures { result ≡ size_before found.now }
 {
     match found {
         None => 0,
-        Some(value) => size_of(key, shown(value)),
+        Some((found, _)) => size_of(found.key(), found.value()),
     }
 }
 
