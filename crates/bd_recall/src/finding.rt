@@ -10,7 +10,7 @@ use std::cmp::Ordering;
 use std::marker::Model;
 
 /// A key and what was found at it: a value of at most 64 bytes, or none. Its order is that of its
-/// key.
+/// key, and two with one key are equal.
 #[derive(Drop)]
 pub struct Finding {
     block: Box<Packed>,

@@ -92,4 +92,5 @@ fn joined(alloc: Global, first: u8, front: &[u8], back: &[u8]) -> Result<Vec<u8>
     Ok(bytes)
 }
 
+// What an entry has for its key and value.
 const _: () = prove!(size_of::<Packed>() == 40);
