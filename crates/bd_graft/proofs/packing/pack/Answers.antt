@@ -1,5 +1,5 @@
 use Rattle.std.proofs.Common.{arith}
-use Rattle.bd_query.proofs.Parts.{if_ok}
+use Rattle.std.proofs.lemmas.Result.{IfOk-weaker}
 use Rattle.bd_graft.specs.declared.packing.Packed.{Packed}
 use Rattle.bd_graft.specs.Walking.{messages_in}
 use Rattle.bd_graft.specs.Packing.{packs, newest_of}
@@ -17,13 +17,15 @@ finished-requires-clause-room g c =
 
 pub returns-clause-packed : goal.returns-clause-packed
 returns-clause-packed g c =
-    if_ok _ _ c.finished.result c.finished.ensures (λ (p : Packed) finished.
+    IfOk-weaker c.finished.result _ _ (λ (p : Packed) finished.
     packed_of (g.S.NodeStore.table c.args.store.now) c.args.end c.next_id-next.result c.args.layers.items c.in_ok-stack.stack p c.next_id-next.ensures.table c.next_id-next.ensures.value
     (stack_room (g.S.NodeStore.table c.args.store.now) c.args.end (packs (messages_in c.args.layers.items)) (newest_of (packs (messages_in c.args.layers.items))) c.in_ok-stack.stack _ c.in_ok-stack.ensures.groups (overlaid_length c.args.end (packs (messages_in c.args.layers.items))) c.requires.room)
     c.requires.layers
     (record { stack = c.in_ok-stack.ensures.stack; low = c.in_ok-stack.ensures.low; few = c.in_ok-stack.ensures.few; begun = c.in_ok-stack.ensures.begun }) finished)
+    c.finished.ensures
 
 pub returns-clause-groups : goal.returns-clause-groups
 returns-clause-groups g c =
-    if_ok _ _ c.finished.result c.finished.ensures (λ (p : Packed) finished.
+    IfOk-weaker c.finished.result _ _ (λ (p : Packed) finished.
     packed_with (g.S.NodeStore.table c.args.store.now) c.args.end c.next_id-next.result (messages_in c.args.layers.items) c.in_ok-stack.stack p c.next_id-next.ensures.value c.in_ok-stack.ensures.groups finished)
+    c.finished.ensures
