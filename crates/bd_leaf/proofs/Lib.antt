@@ -1,6 +1,8 @@
 pub mod Finds
 mod Parts
 mod Cuts
-mod Receives
+mod Covers
+mod OnKeys
+mod Merges
 mod Splitting
 mod Clips
