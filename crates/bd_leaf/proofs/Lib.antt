@@ -4,5 +4,7 @@ mod Cuts
 mod Covers
 mod OnKeys
 mod Merges
+mod Resolves
+mod Sorts
 mod Splitting
 mod Clips

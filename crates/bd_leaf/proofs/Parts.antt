@@ -26,7 +26,7 @@ entry_at-append (e ∷ xs) ys k =
     ]
 
 -- keys that a test tells apart are apart
-apart : (P : List ℕ → Bool) (b c : Bool) (k l : List ℕ) → P l ≡ b → P k ≡ c → (b ≡ c → ⊥) → same_key k l ≡ false
+pub apart : (P : List ℕ → Bool) (b c : Bool) (k l : List ℕ) → P l ≡ b → P k ≡ c → (b ≡ c → ⊥) → same_key k l ≡ false
 apart P b c k l at_l at_k other =
     elim (cases_Bool (same_key k l)) [
       | inl same ↦ absurd (other (sym at_l ∙ ap P (sym (same_text k l (sym same))) ∙ at_k))

@@ -12,7 +12,7 @@ ghost use Rattle.bd_leaf.specs.Points.{IsPoint, IsResolved, IsSorted, dels_of, m
 use crate::receiving::{end_of, start_of};
 use bd_keys::translate;
 use bd_message::Message;
-use bd_node::{Entry, own_key, touches};
+use bd_node::{Entry, is_point, own_key, touches};
 use std::alloc::{AllocError, Global};
 
 /// What is done at one key.
@@ -77,14 +77,15 @@ fn add<'a>(
         → IsResolved entries.now list (messages_of points.old.items)
         → IsResolved entries.now (list ++ message.now ∷ []) (messages_of points.new.items)) }
 {
-    match message {
-        Message::Cut { prefix, from } => {
-            let gone = covered(alloc, entries, prefix.as_slice(), from.as_slice())?;
-            drop_points(points, message);
-            drop_entries(points, gone)
-        }
-        _ => Ok(points.push(Point::Sent(message))?),
+    if is_point(message) {
+        return Ok(points.push(Point::Sent(message))?);
     }
+    let Message::Cut { prefix, from } = message else {
+        unreachable!()
+    };
+    let gone = covered(alloc, entries, prefix.as_slice(), from.as_slice())?;
+    drop_points(points, message);
+    drop_entries(points, gone)
 }
 
 // Drops the points at the keys that a message can change.
