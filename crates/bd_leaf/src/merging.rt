@@ -39,7 +39,7 @@ pub fn merged(
     requires turn { AreInTurn (messages_of points.now) }
     ensures { IfOk result (λ new. IsMerged entries.now (messages_of points.now) new.items) }
 {
-    let mut new = Vec::with_capacity(alloc, entries.len())?;
+    let mut new = Vec::with_capacity(alloc, entries.len().saturating_add(points.len()))?;
     let mut low = 0;
     let mut at = 0;
     while at < points.len() {
@@ -192,7 +192,11 @@ fn kept(alloc: Global, value: Value) -> Result<Option<Bytes>, AllocError>
     match value {
         Value::Nothing => Ok(None),
         Value::Lent(bytes) => Ok(Some(Bytes::from_slice(alloc, bytes)?)),
-        Value::Made(bytes) => Ok(Some(Bytes::from_vec(bytes))),
+        Value::Made(bytes) => {
+            let mut bytes = bytes;
+            bytes.shrink_to_fit();
+            Ok(Some(Bytes::from_vec(bytes)))
+        }
     }
 }
 
