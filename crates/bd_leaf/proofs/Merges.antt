@@ -1,18 +1,17 @@
 -- Entries merged with messages on one key each.
 use Rattle.std.proofs.Common.{◌≡◌, ℕ, ◌+◌, ◌-◌, ◌<◌, ◌≤◌, true, false, not, List, [], ◌∷◌, ◌++◌, length, take, drop, refl, sym, ap, subst, ◌∙◌, None, Some, arith, inl, inr, cond, get_or, take-append-drop, length-drop, length-append, add-one, zero, suc, Ordering, Less, Equal, Greater}
-use Rattle.std.specs.Prelude.{Bool, Option, slice_get, ⊤}
+use Rattle.std.specs.Prelude.{Bool, Option, slice_get}
 use Rattle.std.specs.List.{AllByRecursion, sum_by}
 use Rattle.std.specs.Ordering.{is_lt}
 use Rattle.std.specs.Cmp.Lexicographic.{same_text}
 use Rattle.std.proofs.lemmas.Bool.{cases_Bool}
-use Rattle.std.proofs.lemmas.List.{append-nil, append_assoc, drop-drop, drop_more, take_all, length-map, length-take-le}
+use Rattle.std.proofs.lemmas.List.{append_assoc, drop-drop, drop_more, take_all, length-map, length-take-le}
 use Rattle.std.proofs.lemmas.Option.{same_Some, none-some, slice_get_read}
 use Rattle.std.proofs.lemmas.List.Sums.{sum_by-cons, sum_by-append}
 use Rattle.std.proofs.lemmas.Cmp.{nat_list_cmp_total as total}
-use Rattle.bd_limits.specs.Limits.{key_limit, block_limit}
+use Rattle.bd_limits.specs.Limits.{key_limit}
 use Rattle.bd_keys.specs.Keys.{key_cmp, IsBelow, IsAtLeast}
 use Rattle.bd_message.specs.declared.message.Message.{Message}
-use Rattle.bd_message.specs.Messages.{size}
 use Rattle.bd_message.specs.Effect.{NodesAt, same_key, acts}
 use Rattle.bd_node.specs.declared.node.Entry.{Entry}
 use Rattle.bd_node.specs.Index.{own_key}
@@ -20,13 +19,13 @@ use Rattle.bd_node.specs.Nodes.{entry_at}
 use Rattle.bd_node.specs.Shape.{entry_size, IsEntry, IsRising}
 use Rattle.bd_keys.proofs.Order.{below_from}
 use Rattle.bd_node.proofs.Edges.{not_below_itself, lt_isnt}
-use Rattle.bd_node.proofs.Lookup.{each_weaker, each_first, each_second, each_both}
-use Rattle.bd_leaf.specs.Leaves.{AreEntries, entries_size, IsReceived}
-use Rattle.bd_leaf.specs.Points.{IsPoint, IsOn, IsResolved, AreInTurn, growth, message_of, messages_of, value_after, value_after_all}
+use Rattle.bd_node.proofs.Lookup.{each_weaker, each_first, each_second}
+use Rattle.bd_leaf.specs.Leaves.{AreEntries, entries_size}
+use Rattle.bd_leaf.specs.Points.{IsPoint, IsOn, AreInTurn, growth, message_of, messages_of, value_after_all}
 use Rattle.bd_leaf.specs.declared.points.Point.{Point}
 use Rattle.bd_leaf.specs.Merging.{IsMerged, AreMoved, IsTaken, IsStep, AreOwn, entry_of, count_of}
 use Rattle.bd_leaf.proofs.Finds.{apart_below, apart_above, same_key-refl, tied, above}
-use Rattle.bd_leaf.proofs.OnKeys.{size_with, IsFit, IsOther, acts-append, acts-other, acts-own, message_short, values-fit, values-size}
+use Rattle.bd_leaf.proofs.OnKeys.{size_with, IsFit, IsOther, acts-append, acts-other, acts-own, values-fit, values-size}
 use Rattle.bd_leaf.proofs.Covers.{least_over}
 use Rattle.bd_leaf.proofs.Parts.{true_false, false_true, exchanged, left_entries, placed_entries, size-parts, rising-back}
 
@@ -163,10 +162,6 @@ points_on list k h = each_weaker (IsOn k) IsPoint (λ m on. on.point) list h
 
 -- ---- what is read of the entries
 
-pub taken_nothing : (es : List Entry) (k : List ℕ) → slice_get es 0 ≡ None → IsTaken es k None
-taken_nothing [] k none = record { whole = refl; above = tt }
-taken_nothing (e ∷ es) k none = absurd (none-some e (sym none))
-
 pub taken_own : (es : List Entry) (k : List ℕ) (e : Entry) → IsRising es → slice_get es 0 ≡ Some e → e.key ≡ k → IsTaken es k (Some e.value)
 taken_own [] k e rising there same = absurd (none-some e there)
 taken_own (f ∷ es) k e rising there same =
@@ -251,24 +246,6 @@ pub record IsUnderway (old : List Entry) (points : List Message) (new rest : Lis
   pub turn : AreInTurn left
   pub before : AllByRecursion (λ (m : Message). AllByRecursion (λ (e : Entry). IsBelow e.key (own_key m)) new) left
 
-none_before : (list : List Message) → AllByRecursion (λ (m : Message). AllByRecursion (λ (e : Entry). IsBelow e.key (own_key m)) []) list
-none_before [] = tt
-none_before (m ∷ list) = (tt, none_before list)
-
-pub begun : (es new : List Entry) (points : List Message) → AreEntries es → AllByRecursion IsPoint points → AreInTurn points → new ≡ [] → IsUnderway es points new es points
-begun es new points h each turn none =
-    subst (λ (zs : List Entry). IsUnderway es points zs es points) (sym none)
-    (record { whole = h; acted = λ below k. refl; size = omega arith; each = each; turn = turn; before = none_before points })
-
-pub ended : (es new newer rest : List Entry) (points left : List Message) → IsUnderway es points new rest left → left ≡ [] → newer ≡ new ++ rest → IsMerged es points newer
-ended es new newer rest points left h none is =
-    subst (λ (zs : List Entry). IsMerged es points zs) (sym is)
-    (record {
-      entries = h.whole;
-      acted = λ below k. sym (ap (λ (ms : List Message). acts below ms k (entry_at (new ++ rest) k)) none) ∙ h.acted below k;
-      size = (let s : entries_size (new ++ rest) + sum_by growth left ≤ entries_size es + sum_by growth points = h.size in omega arith);
-    })
-
 turn-back : (xs ys : List Message) → AreInTurn (xs ++ ys) → AreInTurn ys
 turn-back [] ys h = h
 turn-back (m ∷ xs) ys h = turn-back xs ys h.1
@@ -324,13 +301,6 @@ take_each P [] (suc i) h = tt
 take_each P (m ∷ list) zero h = tt
 take_each P (m ∷ list) (suc i) h = (h.0, take_each P list i h.1)
 
-first_each : (P : Message → Type 0) (list : List Message) → ((m : Message) → slice_get list 0 ≡ Some m → P m) → AllByRecursion P (take 1 list)
-first_each P [] h = tt
-first_each P (m ∷ list) h = (h m refl, tt)
-
-pub own_begun : (ps : List Point) (k : List ℕ) → ((m : Message) → slice_get (messages_of ps) 0 ≡ Some m → own_key m ≡ k) → AllByRecursion (λ (m : Message). own_key m ≡ k) (take 1 (messages_of ps))
-own_begun ps k first = first_each (λ (m : Message). own_key m ≡ k) (messages_of ps) first
-
 pub own_more : (ps : List Point) (k own : List ℕ) (place : ℕ) (p : Point) → AllByRecursion (λ (m : Message). own_key m ≡ k) (take place (messages_of ps)) → place < length ps → p ≡ get_or ps place p → own ≡ own_key (message_of p) → same_key own k ≡ true
     → AllByRecursion (λ (m : Message). own_key m ≡ k) (take (place + 1) (messages_of ps))
 own_more ps k own place p h low is own_is same =
@@ -361,13 +331,6 @@ own_all ps k place some high h =
       next = λ m there same. past_end (messages_of ps) (length ps) m (omega arith) there;
     }
 
-pub value_more : (ps : List Point) (i : ℕ) (p : Point) (now next old : Option (List ℕ)) → i < length ps → p ≡ get_or ps i p → next ≡ value_after (message_of p) now
-    → value_after_all (messages_of (drop i ps)) now ≡ value_after_all (messages_of ps) old → value_after_all (messages_of (drop (i + 1) ps)) next ≡ value_after_all (messages_of ps) old
-value_more ps i p now next old low is next_is h =
-    ap (value_after_all (messages_of (drop (i + 1) ps))) next_is
-    ∙ ap (λ (qs : List Point). value_after_all (messages_of qs) now) (sym (drop_more ps i p low ∙ ap (λ (q : Point). q ∷ drop (i + 1) ps) (sym is)))
-    ∙ h
-
 messages-take : (ps : List Point) (i : ℕ) → messages_of (take i ps) ≡ take i (messages_of ps)
 messages-take [] zero = refl
 messages-take [] (suc i) = refl
@@ -391,9 +354,6 @@ drop_first [] zero m there = there
 drop_first [] (suc n) m there = there
 drop_first (x ∷ xs) zero m there = there
 drop_first (x ∷ xs) (suc n) m there = drop_first xs n m there
-
-point_short : (m : Message) → IsPoint m → length (own_key m) ≤ key_limit
-point_short m h = message_short m h.message h.point
 
 -- each new entry is below each message that is left
 all_before : (new : List Entry) (k : List ℕ) (left : List Message) → AllByRecursion (λ (e : Entry). IsAtLeast k e.key) new → AllByRecursion (λ (m : Message). IsBelow k (own_key m)) left
@@ -455,9 +415,6 @@ pub on_part : (ps : List Point) (at n : ℕ) (k : List ℕ) → AllByRecursion I
 on_part ps at n k each own =
     let here : AreOwn (messages_of (drop at ps)) k n = own_part ps at n k own in
     subst (λ (ms : List Message). AllByRecursion (IsOn k) ms) (sym (part_is ps at n)) (both_on (take n (messages_of (drop at ps))) k (take_each IsPoint (messages_of (drop at ps)) n each) here.own)
-
-pub short_at : (ps : List Point) (at : ℕ) (p : Point) (k : List ℕ) → AllByRecursion IsPoint (messages_of ps) → at < length ps → p ≡ get_or ps at p → k ≡ own_key (message_of p) → length k ≤ key_limit
-short_at ps at p k each low is k_is = subst (λ (l : List ℕ). length l ≤ key_limit) (sym k_is) (point_short (message_of p) (point_at ps at p each low is))
 
 pub low_more : (es new newer : List Entry) (low count : ℕ) (k : List ℕ) (own : List Message) → low ≤ length es → IsStep new (take (length es - low) (drop low es)) k own newer count → low + count ≤ length es
 low_more es new newer low count k own within step =

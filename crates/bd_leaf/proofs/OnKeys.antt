@@ -1,20 +1,18 @@
 -- What messages on one key each do.
-use Rattle.std.proofs.Common.{◌≡◌, ℕ, ◌+◌, ◌≤◌, true, false, List, [], ◌∷◌, ◌++◌, length, map, refl, sym, ap, subst, ◌∙◌, None, Some, arith, cond, not}
+use Rattle.std.proofs.Common.{◌≡◌, ℕ, ◌+◌, ◌≤◌, true, false, List, [], ◌∷◌, ◌++◌, length, refl, ap, ◌∙◌, None, Some, arith, cond}
 use Rattle.std.specs.Prelude.{Bool, Option, ⊤}
 use Rattle.std.specs.Option.{unwrap_or}
 use Rattle.std.specs.List.{AllByRecursion, sum_by, filter}
 use Rattle.std.proofs.lemmas.Bool.{cond-true, cond-false}
-use Rattle.std.proofs.lemmas.List.Sums.{sum_by-cons, sum_by-append}
-use Rattle.bd_limits.specs.Limits.{block_limit, key_limit, base_size}
+use Rattle.std.proofs.lemmas.List.Sums.{sum_by-cons}
+use Rattle.bd_limits.specs.Limits.{block_limit, base_size}
 use Rattle.bd_keys.specs.Edits.{overwritten}
 use Rattle.bd_keys.proofs.EditLemmas.{length-overwritten}
 use Rattle.bd_message.specs.declared.message.Message.{Message}
 use Rattle.bd_message.specs.declared.message.Message.TheVariants.{Put, Del, Patch, Cut, Goto}
 use Rattle.bd_message.specs.Messages.{IsMessage, size}
 use Rattle.bd_message.specs.Effect.{NodesAt, same_key, act, acts}
-use Rattle.bd_node.specs.declared.node.Entry.{Entry}
 use Rattle.bd_node.specs.Index.{is_point, own_key}
-use Rattle.bd_node.proofs.Lookup.{each_weaker}
 use Rattle.bd_leaf.specs.Points.{IsPoint, IsOn, growth, message_of, messages_of, value_after, value_after_all}
 use Rattle.bd_leaf.specs.declared.points.Point.{Point}
 use Rattle.bd_leaf.proofs.Finds.{same_key-refl}
@@ -80,14 +78,6 @@ growth-size (Patch key off bytes) = omega arith
 growth-size (Cut prefix from) = omega arith
 growth-size (Goto prefix source child) = omega arith
 
--- its key is no longer than one may be
-pub message_short : (m : Message) → IsMessage m → is_point m ≡ true → length (own_key m) ≤ key_limit
-message_short (Put key v) own on = own.0
-message_short (Del key) own on = own
-message_short (Patch key off bytes) own on = own.0
-message_short (Cut prefix from) own on = absurd (false_true on)
-message_short (Goto prefix source child) own on = absurd (false_true on)
-
 -- ---- several
 
 pub acts-append : (below : NodesAt) (xs ys : List Message) (k : List ℕ) (o : Option (List ℕ)) → acts below (xs ++ ys) k o ≡ acts below ys k (acts below xs k o)
@@ -128,7 +118,7 @@ pub acts-filter : (below : NodesAt) (ps : List Point) (k : List ℕ) (o : Option
 acts-filter below [] k o h = refl
 acts-filter below (p ∷ ps) k o h =
     elim (same_key k (own_key (message_of p))) as (λ (b : Bool). same_key k (own_key (message_of p)) ≡ b
-      → acts below (messages_of (p ∷ ps)) k o ≡ acts below (messages_of (cond b (p ∷ filter (λ (q : Point). same_key k (own_key (message_of q))) ps) (filter (λ (q : Point). same_key k (own_key (message_of q))) ps))) k o) [
+    → acts below (messages_of (p ∷ ps)) k o ≡ acts below (messages_of (cond b (p ∷ filter (λ (q : Point). same_key k (own_key (message_of q))) ps) (filter (λ (q : Point). same_key k (own_key (message_of q))) ps))) k o) [
       | true ↦ λ same. acts-filter below ps k (act below (message_of p) k o) h.1
       | false ↦ λ other. ap (acts below (messages_of ps) k) (act-other below (message_of p) k o h.0.point other) ∙ acts-filter below ps k o h.1
     ] refl

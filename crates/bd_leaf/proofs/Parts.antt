@@ -1,5 +1,5 @@
 -- Entries in parts: what they have at a key, their order and their size.
-use Rattle.std.proofs.Common.{◌≡◌, ℕ, zero, suc, ◌+◌, ◌<◌, ◌≤◌, true, false, List, [], ◌∷◌, ◌++◌, length, take, drop, refl, sym, ap, ◌∙◌, None, Some, arith, inl, inr, cond, set}
+use Rattle.std.proofs.Common.{◌≡◌, ℕ, zero, suc, ◌+◌, ◌<◌, ◌≤◌, true, false, List, [], ◌∷◌, ◌++◌, take, drop, refl, sym, ap, ◌∙◌, None, Some, arith, inl, inr, cond}
 use Rattle.std.specs.Prelude.{Bool, Option, slice_get}
 use Rattle.std.specs.Option.{option_or}
 use Rattle.std.specs.List.{AllByRecursion}
@@ -153,12 +153,6 @@ three_parts es zero n b is = two_parts es n ∙ ap (λ (m : ℕ). take n es ++ d
 three_parts [] (suc a) n b is = nothing-parts n b
 three_parts (e ∷ es) (suc a) n zero is = absurd (omega arith)
 three_parts (e ∷ es) (suc a) n (suc b) is = ap (λ (r : List Entry). e ∷ r) (three_parts es a n b (omega arith))
-
--- one entry in the place of another
-pub set-parts : (es : List Entry) (place : ℕ) (e : Entry) → place < length es → set es place e ≡ take place es ++ e ∷ drop (suc place) es
-set-parts [] place e low = absurd (omega arith)
-set-parts (f ∷ es) zero e low = refl
-set-parts (f ∷ es) (suc place) e low = ap (λ (r : List Entry). f ∷ r) (set-parts es place e (omega arith))
 
 -- before an entry there are others
 pub earlier : (es : List Entry) (i j : ℕ) (e : Entry) → i < j → slice_get es j ≡ Some e → (f : Entry) × (slice_get es i ≡ Some f)

@@ -1,21 +1,19 @@
 -- What a batch does to entries, key by key.
-use Rattle.std.proofs.Common.{◌≡◌, ℕ, ◌+◌, ◌<◌, ◌≤◌, true, false, not, List, [], ◌∷◌, ◌++◌, length, take, drop, map, refl, sym, ap, subst, ◌∙◌, None, Some, arith, inl, inr, cond, get_or}
+use Rattle.std.proofs.Common.{◌≡◌, ℕ, ◌+◌, ◌≤◌, true, false, not, List, [], ◌∷◌, ◌++◌, refl, sym, ap, subst, ◌∙◌, None, Some, arith, inl, inr, cond}
 use Rattle.std.specs.Prelude.{Bool, Option}
 use Rattle.std.specs.List.{AllByRecursion, sum_by, filter}
 use Rattle.std.proofs.lemmas.Bool.{cases_Bool}
-use Rattle.std.proofs.lemmas.List.{append-nil, take_more, take_all}
 use Rattle.std.proofs.lemmas.List.Sums.{sum_by-cons, sum_by-append}
-use Rattle.bd_limits.specs.Limits.{key_limit}
 use Rattle.bd_message.specs.declared.message.Message.{Message}
 use Rattle.bd_message.specs.declared.message.Message.TheVariants.{Del, Cut}
-use Rattle.bd_message.specs.Messages.{IsMessage, size}
+use Rattle.bd_message.specs.Messages.{size}
 use Rattle.bd_message.specs.Effect.{NodesAt, same_key, is_cut, act, acts}
 use Rattle.bd_node.specs.declared.node.Entry.{Entry}
-use Rattle.bd_node.specs.Index.{is_point, own_key}
+use Rattle.bd_node.specs.Index.{own_key}
 use Rattle.bd_node.specs.Nodes.{entry_at}
 use Rattle.bd_node.specs.Shape.{IsEntry}
 use Rattle.bd_node.specs.Touching.{touches}
-use Rattle.bd_node.proofs.Lookup.{each_weaker, each_first, each_second, each_both}
+use Rattle.bd_node.proofs.Lookup.{each_first, each_second, each_both}
 use Rattle.bd_leaf.specs.Leaves.{AreEntries, IsCovered, IsReceived, entries_size}
 use Rattle.bd_leaf.specs.Points.{IsPoint, IsResolved, IsSorted, dels_of, growth, message_of, messages_of}
 use Rattle.bd_leaf.specs.Merging.{IsMerged}
@@ -166,17 +164,6 @@ cut_added entries old list ps left new m prefix from is all covers left_is new_i
     (with_cut entries old list ps prefix from all covers h))
 
 -- ---- a batch
-
-pub none_resolved : (entries : List Entry) (ps : List Point) → ps ≡ [] → IsResolved entries [] (messages_of ps)
-none_resolved entries ps none = subst (λ (qs : List Point). IsResolved entries [] (messages_of qs)) (sym none) (record { each = tt; acted = λ below k. refl; size = omega arith })
-
-pub one_more : (entries : List Entry) (list : List Message) (i : ℕ) (m : Message) (ps qs : List Point) → i < length list → m ≡ get_or list i m → IsResolved entries (take i list) (messages_of ps)
-    → ((done : List Message) → IsResolved entries done (messages_of ps) → IsResolved entries (done ++ m ∷ []) (messages_of qs)) → IsResolved entries (take (i + 1) list) (messages_of qs)
-one_more entries list i m ps qs low is h more =
-    subst (λ (ms : List Message). IsResolved entries ms (messages_of qs)) (sym (take_more list i m low ∙ ap (λ (n : Message). take i list ++ n ∷ []) (sym is))) (more (take i list) h)
-
-pub all_resolved : (entries : List Entry) (list : List Message) (i : ℕ) (ps : List Point) → length list ≤ i → IsResolved entries (take i list) (messages_of ps) → IsResolved entries list (messages_of ps)
-all_resolved entries list i ps high h = subst (λ (ms : List Message). IsResolved entries ms (messages_of ps)) (take_all i list high) h
 
 pub received : (entries new : List Entry) (list points turned : List Message) → IsResolved entries list points → IsSorted points turned → IsMerged entries turned new → IsReceived entries list new
 received entries new list points turned h sorted merged = record {

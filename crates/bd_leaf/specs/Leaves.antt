@@ -1,7 +1,7 @@
 -- The entries of a leaf after messages, and in two parts.
-use Rattle.std.specs.Prelude.{◌≡◌, ℕ, ◌+◌, ◌<◌, ◌≤◌, if◌then◌else◌, List, ◌++◌, length, take, drop, true, false, Option, None, Some, slice_get}
+use Rattle.std.specs.Prelude.{◌≡◌, ℕ, ◌+◌, ◌<◌, ◌≤◌, List, ◌++◌, length, take, drop, true, false, Some, slice_get}
 use Rattle.std.specs.List.{AllByRecursion, sum_by}
-use Rattle.bd_limits.specs.Limits.{leaf_limit, batch_limit, base_size}
+use Rattle.bd_limits.specs.Limits.{leaf_limit, batch_limit}
 use Rattle.bd_keys.specs.Keys.{IsBelow, IsAtLeast}
 use Rattle.bd_message.specs.declared.message.Message.{Message}
 use Rattle.bd_message.specs.Messages.{size}

@@ -37,7 +37,7 @@ count_of (Some value) = 1
 
 -- the first so many of the rest went to the new entries: all that are below the key
 pub record AreMoved (new rest : List Entry) (key : List ℕ) (newer : List Entry) (count : ℕ)
-  : Type 0
+    : Type 0
   where
     pub within : count ≤ length rest
     pub moved : newer ≡ new ++ take count rest
@@ -52,7 +52,7 @@ pub record IsTaken (entries : List Entry) (key : List ℕ) (old : Option (List �
 -- the first so many of the rest, and messages on a key, went into the new entries, which are all up
 -- to the key
 pub record IsStep (new rest : List Entry) (key : List ℕ) (own : List Message)
-  (newer : List Entry) (count : ℕ) : Type 0
+    (newer : List Entry) (count : ℕ) : Type 0
   where
     pub within : count ≤ length rest
     pub merged : IsMerged (new ++ rest) own (newer ++ drop count rest)

@@ -3,7 +3,7 @@ use Rattle.std.specs.Prelude.{◌≡◌, ℕ, ◌≤◌, true, List, [], ◌∷�
 use Rattle.std.specs.Option.{unwrap_or}
 use Rattle.std.specs.List.{AllByRecursion, sum_by}
 use Rattle.bd_keys.specs.Edits.{overwritten}
-use Rattle.bd_keys.specs.Keys.{IsBelow, IsAtLeast}
+use Rattle.bd_keys.specs.Keys.{IsAtLeast}
 use Rattle.bd_message.specs.declared.message.Message.{Message}
 use Rattle.bd_message.specs.declared.message.Message.TheVariants.{Put, Del, Patch, Cut, Goto}
 use Rattle.bd_message.specs.Messages.{IsMessage, size}

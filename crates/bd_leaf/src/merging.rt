@@ -20,7 +20,7 @@ use bd_message::Message;
 use bd_node::Entry;
 use std::alloc::{AllocError, Global};
 
-// A value on its way: none, one that stands somewhere else, or a new one.
+// A value before it is kept: none, one that stands somewhere else, or a new one.
 #[derive(Drop)]
 enum Value<'a> {
     Nothing,
@@ -28,12 +28,9 @@ enum Value<'a> {
     Made(Vec<u8>),
 }
 
-/// The entries after what is done at each key, in the order of the keys. Each is copied or made once.
-pub fn merged(
-    alloc: Global,
-    entries: &[Entry],
-    points: &[Point],
-) -> Result<Vec<Entry>, AllocError>
+/// The entries after what is done to them, where the points stand in the order of their keys. Each
+/// entry that is left is copied or made once.
+pub fn merged(alloc: Global, entries: &[Entry], points: &[Point]) -> Result<Vec<Entry>, AllocError>
     requires entries { AreEntries entries.now }
     requires points { AllByRecursion IsPoint (messages_of points.now) }
     requires turn { AreInTurn (messages_of points.now) }
@@ -201,11 +198,7 @@ fn kept(alloc: Global, value: Value) -> Result<Option<Bytes>, AllocError>
 }
 
 // A value after one thing that is done to it.
-fn changed<'a>(
-    alloc: Global,
-    value: Value<'a>,
-    point: &Point<'a>,
-) -> Result<Value<'a>, AllocError>
+fn changed<'a>(alloc: Global, value: Value<'a>, point: &Point<'a>) -> Result<Value<'a>, AllocError>
     requires { IsPoint (message_of point.now) }
     ensures { IfOk result (λ new.
         bytes_of new ≡ value_after (message_of point.now) (bytes_of value.entry)) }

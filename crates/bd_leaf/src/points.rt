@@ -36,8 +36,8 @@ impl<'a> Point<'a> {
     }
 }
 
-/// What messages do to entries, key by key: at one key the first one first. What one on a range of
-/// keys drops isn't there any more.
+/// What messages do to entries, key by key, and at one key the first one first. One on a range of
+/// keys drops the points there so far, and each entry there is dropped by a point of its own.
 pub fn points_of<'a>(
     alloc: Global,
     entries: &'a [Entry],

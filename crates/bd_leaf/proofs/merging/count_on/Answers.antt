@@ -1,5 +1,5 @@
 use Rattle.std.proofs.Common.{arith}
-use Rattle.bd_leaf.proofs.Merges.{own_begun, own_more, own_ended, own_all, not_is_true, not_is_false}
+use Rattle.bd_leaf.proofs.Merges.{own_more, own_ended, own_all, not_is_true, not_is_false}
 use Rattle.bd_leaf.proofs.merging.count_on.Goals as goal
 
 pub returns-then-ne : goal.returns-then-ne

@@ -1,6 +1,4 @@
-use Rattle.std.proofs.Common.{sym, ◌∙◌}
-use Rattle.bd_leaf.specs.Points.{messages_of}
-use Rattle.bd_leaf.proofs.Merges.{before_at, on_part, short_at, low_more, at_more, underway_more}
+use Rattle.bd_leaf.proofs.Merges.{before_at, on_part, low_more, at_more, underway_more}
 use Rattle.bd_leaf.proofs.merging.merged.Goals as goal
 
 pub merge_at-requires-clause-before : goal.merge_at-requires-clause-before

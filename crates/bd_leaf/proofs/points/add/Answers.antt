@@ -1,4 +1,4 @@
-use Rattle.std.proofs.Common.{ap, sym, ◌∙◌}
+use Rattle.std.proofs.Common.{sym, ◌∙◌}
 use Rattle.bd_message.specs.declared.message.Message.TheVariants.{Cut}
 use Rattle.bd_message.proofs.Finds.{on_ok}
 use Rattle.bd_leaf.proofs.Resolves.{with_point, cut_added}

@@ -1,4 +1,4 @@
-use Rattle.std.proofs.Common.{List, ap, sym, subst, ◌∙◌}
+use Rattle.std.proofs.Common.{List, sym, subst, ◌∙◌}
 use Rattle.bd_leaf.specs.declared.points.Point.{Point}
 use Rattle.bd_leaf.specs.Points.{messages_of}
 use Rattle.bd_leaf.specs.Merging.{IsMerged}
