@@ -2,7 +2,6 @@
 use Rattle.std.proofs.Common.{◌≡◌, ℕ, ◌+◌, ◌-◌, ◌≤◌, true, List, [], ◌∷◌, ◌++◌, length, take, drop, map, refl, sym, ap, subst, ◌∙◌, Some, arith, cond, length-drop}
 use Rattle.std.specs.Prelude.{Bool}
 use Rattle.std.specs.List.{AllByRecursion}
-use Rattle.std.specs.Cmp.{unsigned_Decides}
 use Rattle.std.proofs.lemmas.List.{append-nil}
 use Rattle.std.proofs.lemmas.List.Sums.{sum_by-cons}
 use Rattle.bd_keys.specs.Keys.{key_cmp}
@@ -13,10 +12,10 @@ use Rattle.bd_node.specs.declared.node.Entry.{Entry}
 use Rattle.bd_node.specs.Nodes.{entry_at}
 use Rattle.bd_node.specs.Shape.{entry_size, IsEntry, IsRising, IsBelowAll}
 use Rattle.bd_node.proofs.Lookup.{each_weaker, each_first, each_second}
-use Rattle.bd_leaf.specs.Leaves.{AreEntries, entries_size, without, IsClipped, IsStart, IsEnd}
+use Rattle.bd_leaf.specs.Leaves.{AreEntries, entries_size, without, IsClipped, IsCovered, IsStart, IsEnd}
 use Rattle.bd_leaf.proofs.Parts.{exchanged, rising-front, rising-back, size-parts}
 use Rattle.bd_leaf.proofs.Cuts.{cmp-after, is_cut-from, is_cut-begun}
-use Rattle.bd_leaf.proofs.Receives.{IsCutOut, cut_out}
+use Rattle.bd_leaf.proofs.Covers.{cut_out}
 
 abbrev Begun : List ℕ → List Entry → Type 0
 Begun p es = AllByRecursion (λ (e : Entry). begins e.key p ≡ true) es
@@ -70,10 +69,10 @@ all_cut p k = is_cut-from p [] (p ++ k) (begins-append p k) (λ less. not_below_
 
 pub clipped : (es : List Entry) (p : List ℕ) (start n : ℕ) → AreEntries es → IsStart es p start → IsEnd es start p (start + n) → IsClipped es p (all_without p (take n (drop start es)))
 clipped es p start n h first last =
-    let xs : List Entry = take start es in
     let old : List Entry = take n (drop start es) in
-    let ys : List Entry = drop (start + n) es in
-    let parts : IsCutOut es p [] xs old ys = cut_out es p [] start n h (subst (λ (k : List ℕ). IsStart es k start) (sym (append-nil p)) first) last in
+    let parts : IsCovered es p [] old = cut_out es p [] start n h (subst (λ (k : List ℕ). IsStart es k start) (sym (append-nil p)) first) last in
+    let xs : List Entry = parts.before in
+    let ys : List Entry = parts.after in
     let begun : Begun p old = each_weaker (λ (e : Entry). is_cut p [] e.key ≡ true) (λ (e : Entry). begins e.key p ≡ true) (λ e own. is_cut-begun p [] e.key own) old parts.out in
     let whole : AreEntries (xs ++ (old ++ ys)) = subst AreEntries parts.whole h in
     record {
@@ -84,7 +83,7 @@ clipped es p start n h first last =
       has = λ k.
           entry_at-without p old k begun
           ∙ sym (ap (λ (zs : List Entry). entry_at zs (p ++ k)) parts.whole
-          ∙ exchanged (is_cut p []) xs old old ys (p ++ k) parts.before parts.out parts.out parts.after
+          ∙ exchanged (is_cut p []) xs old old ys (p ++ k) parts.kept parts.out parts.out parts.later
           ∙ ap (λ (b : Bool). cond b (entry_at old (p ++ k)) (entry_at (xs ++ (old ++ ys)) (p ++ k))) (all_cut p k));
       size = (let new : entries_size (all_without p old) ≤ entries_size old = size-without p old in
           let was : entries_size es ≡ entries_size xs + (entries_size old + entries_size ys) = ap entries_size parts.whole ∙ size-parts xs old ys in

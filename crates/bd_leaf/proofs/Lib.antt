@@ -1,6 +1,10 @@
 pub mod Finds
 mod Parts
 mod Cuts
-mod Receives
+mod Covers
+mod OnKeys
+mod Merges
+mod Resolves
+mod Sorts
 mod Splitting
 mod Clips

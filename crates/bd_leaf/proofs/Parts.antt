@@ -1,5 +1,5 @@
 -- Entries in parts: what they have at a key, their order and their size.
-use Rattle.std.proofs.Common.{◌≡◌, ℕ, zero, suc, ◌+◌, ◌<◌, ◌≤◌, true, false, List, [], ◌∷◌, ◌++◌, length, take, drop, refl, sym, ap, ◌∙◌, None, Some, arith, inl, inr, cond, set}
+use Rattle.std.proofs.Common.{◌≡◌, ℕ, zero, suc, ◌+◌, ◌<◌, ◌≤◌, true, false, List, [], ◌∷◌, ◌++◌, take, drop, refl, sym, ap, ◌∙◌, None, Some, arith, inl, inr, cond}
 use Rattle.std.specs.Prelude.{Bool, Option, slice_get}
 use Rattle.std.specs.Option.{option_or}
 use Rattle.std.specs.List.{AllByRecursion}
@@ -26,7 +26,7 @@ entry_at-append (e ∷ xs) ys k =
     ]
 
 -- keys that a test tells apart are apart
-apart : (P : List ℕ → Bool) (b c : Bool) (k l : List ℕ) → P l ≡ b → P k ≡ c → (b ≡ c → ⊥) → same_key k l ≡ false
+pub apart : (P : List ℕ → Bool) (b c : Bool) (k l : List ℕ) → P l ≡ b → P k ≡ c → (b ≡ c → ⊥) → same_key k l ≡ false
 apart P b c k l at_l at_k other =
     elim (cases_Bool (same_key k l)) [
       | inl same ↦ absurd (other (sym at_l ∙ ap P (sym (same_text k l (sym same))) ∙ at_k))
@@ -153,12 +153,6 @@ three_parts es zero n b is = two_parts es n ∙ ap (λ (m : ℕ). take n es ++ d
 three_parts [] (suc a) n b is = nothing-parts n b
 three_parts (e ∷ es) (suc a) n zero is = absurd (omega arith)
 three_parts (e ∷ es) (suc a) n (suc b) is = ap (λ (r : List Entry). e ∷ r) (three_parts es a n b (omega arith))
-
--- one entry in the place of another
-pub set-parts : (es : List Entry) (place : ℕ) (e : Entry) → place < length es → set es place e ≡ take place es ++ e ∷ drop (suc place) es
-set-parts [] place e low = absurd (omega arith)
-set-parts (f ∷ es) zero e low = refl
-set-parts (f ∷ es) (suc place) e low = ap (λ (r : List Entry). f ∷ r) (set-parts es place e (omega arith))
 
 -- before an entry there are others
 pub earlier : (es : List Entry) (i j : ℕ) (e : Entry) → i < j → slice_get es j ≡ Some e → (f : Entry) × (slice_get es i ≡ Some f)

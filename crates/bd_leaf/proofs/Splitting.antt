@@ -16,7 +16,7 @@ use Rattle.bd_node.proofs.Lookup.{each_weaker, each_first, each_second}
 use Rattle.bd_node.proofs.Edges.{less_lt, not_less_lt, not_below_itself}
 use Rattle.bd_leaf.specs.Leaves.{AreEntries, entries_size, AreApart, IsMiddle}
 use Rattle.bd_leaf.proofs.Parts.{entry_at-append, entry_at-other, or-none, true_false, false_true, rising-front, rising-back, rising-across}
-use Rattle.bd_leaf.proofs.Receives.{least_over}
+use Rattle.bd_leaf.proofs.Covers.{least_over}
 
 -- ---- sizes
 

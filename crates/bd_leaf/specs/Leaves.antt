@@ -1,11 +1,11 @@
 -- The entries of a leaf after messages, and in two parts.
-use Rattle.std.specs.Prelude.{◌≡◌, ℕ, ◌+◌, ◌<◌, ◌≤◌, if◌then◌else◌, List, ◌++◌, length, take, drop, true, false, Option, None, Some, slice_get}
+use Rattle.std.specs.Prelude.{◌≡◌, ℕ, ◌+◌, ◌<◌, ◌≤◌, List, ◌++◌, length, take, drop, true, false, Some, slice_get}
 use Rattle.std.specs.List.{AllByRecursion, sum_by}
-use Rattle.bd_limits.specs.Limits.{leaf_limit, batch_limit, base_size}
+use Rattle.bd_limits.specs.Limits.{leaf_limit, batch_limit}
 use Rattle.bd_keys.specs.Keys.{IsBelow, IsAtLeast}
 use Rattle.bd_message.specs.declared.message.Message.{Message}
 use Rattle.bd_message.specs.Messages.{size}
-use Rattle.bd_message.specs.Effect.{NodesAt, same_key, begins, acts}
+use Rattle.bd_message.specs.Effect.{NodesAt, begins, is_cut, acts}
 use Rattle.bd_node.specs.declared.node.Entry.{Entry}
 use Rattle.bd_node.specs.Nodes.{entry_at}
 use Rattle.bd_node.specs.Shape.{entry_size, IsEntry, IsRising}
@@ -29,6 +29,16 @@ pub record IsReceived (old : List Entry) (list : List Message) (new : List Entry
   pub acted : (below : NodesAt) (k : List ℕ) → entry_at new k ≡ acts below list k (entry_at old k)
   pub size : entries_size new ≤ entries_size old + sum_by size list
 
+-- the entries between others that a Cut drops, and nothing else
+pub record IsCovered (entries : List Entry) (prefix from : List ℕ) (old : List Entry) : Type 0
+  where
+    pub before : List Entry
+    pub after : List Entry
+    pub whole : entries ≡ before ++ (old ++ after)
+    pub kept : AllByRecursion (λ (e : Entry). is_cut prefix from e.key ≡ false) before
+    pub out : AllByRecursion (λ (e : Entry). is_cut prefix from e.key ≡ true) old
+    pub later : AllByRecursion (λ (e : Entry). is_cut prefix from e.key ≡ false) after
+
 -- the entry without so many bytes at the front of its key
 abbrev pub without : ℕ → Entry → Entry
 without count e = record { key = drop count e.key; value = e.value }
@@ -39,19 +49,6 @@ pub record IsClipped (old : List Entry) (prefix : List ℕ) (new : List Entry) :
   pub entries : AreEntries new
   pub has : (k : List ℕ) → entry_at new k ≡ entry_at old (prefix ++ k)
   pub size : entries_size new ≤ entries_size old
-
--- how many bytes a key counts with its value, if it has one
-abbrev pub size_with : List ℕ → Option (List ℕ) → ℕ
-size_with key None = 0
-size_with key (Some value) = base_size + length key + length value
-
--- what is left where a key gets a value in place of the one that it had
-pub record IsPut (old : List Entry) (key value : List ℕ) (new : List Entry) : Type 0 where
-  pub entries : AreEntries new
-  pub has : (k : List ℕ)
-      → entry_at new k ≡ (if same_key k key then Some value else entry_at old k)
-  pub size : entries_size new + size_with key (entry_at old key)
-      ≡ entries_size old + size_with key (Some value)
 
 -- the entries before this place are those whose keys are below this one
 pub record IsStart (entries : List Entry) (key : List ℕ) (place : ℕ) : Type 0 where

@@ -1,2 +1,4 @@
 pub mod Places
 pub mod Leaves
+pub mod Points
+pub mod Merging

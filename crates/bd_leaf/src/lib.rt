@@ -3,6 +3,8 @@
 #![tactic(auto)]
 
 mod halves;
+mod merging;
+mod points;
 mod receiving;
 
 ghost use Rattle.std.specs.Prelude.{◌≡◌, ◌+◌, ◌-◌, ◌*◌, ◌^◌, ◌<◌, ◌≤◌, length};

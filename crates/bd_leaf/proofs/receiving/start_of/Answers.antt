@@ -1,4 +1,4 @@
-use Rattle.bd_leaf.proofs.Receives.{start_ok, start_err}
+use Rattle.bd_leaf.proofs.Covers.{start_ok, start_err}
 use Rattle.bd_leaf.proofs.receiving.start_of.Goals as goal
 
 pub returns-in-Ok : goal.returns-in-Ok
