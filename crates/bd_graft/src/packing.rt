@@ -104,8 +104,7 @@ fn grown(groups: Groups, layer: &Layer) -> Groups
 /// Packs the messages of layers into overlay nodes over the end of a way, from the last layer on:
 /// the first node gets the store's next id, the others the ids after it. The messages of one layer
 /// stand in one node, and each node has at most 32,768 bytes of them; where those of one more layer
-/// fit, they stand in it too. Without messages there is no node, but over nothing there is one. The
-/// messages are moved.
+/// fit, they stand in it too. Without messages there is no node, but over nothing there is one.
 pub fn pack<S: NodeStore>(
     alloc: Global,
     store: &S,

@@ -21,8 +21,7 @@ pub fn fits(entries: &[Entry]) -> bool
 
 /// The two halves of a leaf of two entries or more, by their bytes: entries that a batch of at most
 /// 16,384 bytes has made too many for a leaf give two leaves. The second one's first key is the
-/// pivot. Neither takes more memory than its entries need. Where there is none, the entries are let
-/// go.
+/// pivot. Where there is no memory, the entries are let go.
 pub fn split(entries: Entries) -> Result<(Entries, Entries), AllocError>
     requires entries { AreEntries entries }
     requires two { 2 ≤ length entries }
@@ -37,6 +36,7 @@ pub fn split(entries: Entries) -> Result<(Entries, Entries), AllocError>
     let place = middle(entries.as_slice());
     let mut first = entries.into_vec();
     let second = first.split_off(place)?;
+    // It has the memory of all until now.
     first.shrink_to_fit();
     Ok((Entries::from_vec(first), Entries::from_vec(second)))
 }

@@ -28,8 +28,7 @@ enum Value<'a> {
     Made(Vec<u8>),
 }
 
-/// The entries after what is done to them, where the points stand in the order of their keys. Each
-/// entry that is left is copied or made once.
+/// The entries after what is done to them, where the points stand in the order of their keys.
 pub fn merged(alloc: Global, entries: &[Entry], points: &[Point]) -> Result<Vec<Entry>, AllocError>
     requires entries { AreEntries entries.now }
     requires points { AllByRecursion IsPoint (messages_of points.now) }

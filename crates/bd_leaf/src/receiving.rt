@@ -12,8 +12,8 @@ use bd_message::Message;
 use bd_node::{Entries, Entry};
 use std::alloc::{AllocError, Global};
 
-/// The entries of a leaf after messages, the first one first, none of which names a node, in no more
-/// memory than they need. A leaf that they have made too large is for `split`.
+/// The entries of a leaf after messages, the first one first, none of which names a node. A leaf that
+/// they have made too large is for `split`.
 pub fn receive(alloc: Global, entries: &[Entry], list: &[Message]) -> Result<Entries, AllocError>
     requires entries { AreEntries entries.now }
     requires messages { All IsMessage list.now }
@@ -23,6 +23,7 @@ pub fn receive(alloc: Global, entries: &[Entry], list: &[Message]) -> Result<Ent
     let mut points = points_of(alloc, entries, list)?;
     sort(&mut points)?;
     let mut new = merged(alloc, entries, points.as_slice())?;
+    // Leaves are kept as they are, so none keeps memory that its entries don't need.
     new.shrink_to_fit();
     Ok(Entries::from_vec(new))
 }
