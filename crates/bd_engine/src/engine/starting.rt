@@ -26,7 +26,7 @@ use bd_view::laws::kept_nodes_are_listed;
 use std::alloc::Global;
 
 // How many nodes that were read are kept in memory.
-const CACHE_ROOM: usize = 64;
+const CACHE_ROOM: usize = 96;
 
 /// What is found in an image.
 #[derive(Drop)]
