@@ -12,7 +12,7 @@ use bd_node::{Messages, Node};
 use std::alloc::AllocError;
 
 /// A copy of an inner node with messages put after those that wait in it, of at most 32,768 bytes
-/// with them. At each key it has what the node had, changed by the messages. These are moved.
+/// with them. At each key it has what the node had, changed by the messages.
 pub fn receive(node: &Node, list: Messages) -> Result<Node, AllocError>
     requires shape { IsShape node.now }
     requires inner { 1 ≤ level_of node.now }

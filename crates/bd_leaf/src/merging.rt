@@ -50,7 +50,8 @@ pub fn merged(alloc: Global, entries: &[Entry], points: &[Point]) -> Result<Vec<
 
 // How many of the first points are at the key.
 fn count_on(points: &[Point], key: &[u8]) -> usize
-    requires first { (m : Message) → slice_get (messages_of points.now) 0 ≡ Some m → own_key m ≡ key.now }
+    requires first { (m : Message) → slice_get (messages_of points.now) 0 ≡ Some m
+        → own_key m ≡ key.now }
     requires some { 1 ≤ length points.now }
     ensures { AreOwn (messages_of points.now) key.now result }
 {

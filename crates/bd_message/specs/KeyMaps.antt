@@ -29,6 +29,12 @@ IsNext at from within (Some k) =
     IsFound at from within k × ((l : List ℕ) → IsFound at from within l → IsAtLeast l k)
 IsNext at from within None = (l : List ℕ) → ¬ IsFound at from within l
 
+-- the least of these keys and its value, or none where there is none
+abbrev pub IsNextEntry : At → List ℕ → List ℕ → Option (List ℕ × List ℕ) → Type 0
+IsNextEntry at from within (Some entry) =
+    IsNext at from within (Some entry.0) × (at entry.0 ≡ Some entry.1)
+IsNextEntry at from within None = IsNext at from within None
+
 -- at most four messages that name no node, for which there is room
 pub record IsBatch (list : List Message) (room : ℕ) : Type 0 where
   pub few : length list ≤ 4

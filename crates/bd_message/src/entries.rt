@@ -1,7 +1,7 @@
 //! Keys with their values, in no order; the first one of a key counts.
 
 ghost use Rattle.std.specs.Prelude.{◌≡◌, ◌≤◌, ◌+◌, ◌++◌, ℕ, List, not, length, Some, All, IfOk, OnOk, IsTrue, ◌↔◌, [], ◌∷◌};
-ghost use Rattle.std.specs.Option.{option_copied, unwrap_or};
+ghost use Rattle.std.specs.Option.{option_copied, option_map, unwrap_or};
 ghost use Rattle.std.specs.List.{filter, filter_map};
 ghost use Rattle.bd_keys.specs.Keys.{IsAtLeast, Begins};
 ghost use Rattle.bd_limits.specs.Limits.{block_limit};
@@ -9,7 +9,7 @@ ghost use Rattle.bd_message.specs.Effect.{begins, is_cut};
 ghost use Rattle.bd_keys.specs.Edits.{overwritten};
 ghost use Rattle.bd_message.specs.declared.message.Message.TheVariants as message;
 ghost use Rattle.bd_message.specs.Messages.{IsMessage, IsPlain};
-ghost use Rattle.bd_message.specs.KeyMaps.{IsNext, grafted};
+ghost use Rattle.bd_message.specs.KeyMaps.{IsNext, IsNextEntry, grafted};
 ghost use Rattle.bd_message.specs.Entries.{entry_at, others, moved_entry, IsActed, IsLesser};
 
 use crate::Message;
@@ -168,8 +168,22 @@ pub fn grafted(
     Ok(new)
 }
 
-/// The least key that is at least `from` and begins with `within`.
-pub fn next<'a>(entries: &'a [Entry], from: &[u8], within: &[u8]) -> Option<&'a [u8]>
+/// The least key that is at least `from` and begins with `within`, and its value.
+pub fn next_entry<'a>(
+    entries: &'a [Entry],
+    from: &[u8],
+    within: &[u8],
+) -> Option<(&'a [u8], &'a [u8])>
+    ensures { IsNextEntry (entry_at entries.now) from.now within.now
+        (option_map (λ entry. (entry.0.now, entry.1.now)) result) }
+{
+    let key = next(entries, from, within)?;
+    let value = find(entries, key)?;
+    Some((key, value))
+}
+
+// The key.
+fn next<'a>(entries: &'a [Entry], from: &[u8], within: &[u8]) -> Option<&'a [u8]>
     ensures { IsNext (entry_at entries.now) from.now within.now (option_copied result) }
 {
     let mut least = None;

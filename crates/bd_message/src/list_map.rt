@@ -1,6 +1,6 @@
 //! A key map in memory.
 
-ghost use Rattle.std.specs.Prelude.{◌≡◌, IfOk, ⊤};
+ghost use Rattle.std.specs.Prelude.{◌≡◌, ℕ, List, IfOk, ⊤};
 ghost use Rattle.std.specs.Option.{option_map, option_copied};
 ghost use Rattle.std.specs.FinMap.{empty};
 
@@ -72,8 +72,8 @@ impl KeyMap for ListMap {
         Ok(owned(self.alloc, entries::find(&self.entries, key))?)
     }
 
-    fn next(&mut self, from: &[u8], within: &[u8]) -> Result<Option<Vec<u8>>, MapFault> {
-        Ok(owned(self.alloc, entries::next(&self.entries, from, within))?)
+    fn next(&mut self, from: &[u8], within: &[u8]) -> Result<Option<(Vec<u8>, Vec<u8>)>, MapFault> {
+        Ok(owned_entry(self.alloc, entries::next_entry(&self.entries, from, within))?)
     }
 
     fn room(&self) -> usize {
@@ -104,6 +104,24 @@ fn owned(alloc: Global, found: Option<&[u8]>) -> Result<Option<Vec<u8>>, AllocEr
 {
     match found {
         Some(bytes) => Ok(Some(Vec::from_slice(alloc, bytes)?)),
+        None => Ok(None),
+    }
+}
+
+// The key and the value that were found, as the caller's own.
+fn owned_entry(
+    alloc: Global,
+    found: Option<(&[u8], &[u8])>,
+) -> Result<Option<(Vec<u8>, Vec<u8>)>, AllocError>
+    ensures { IfOk result (λ owned.
+        option_map {U = List ℕ × List ℕ} (λ entry. (entry.0.items, entry.1.items)) owned
+        ≡ option_map (λ entry. (entry.0.now, entry.1.now)) found.entry) }
+{
+    match found {
+        Some((key, value)) => Ok(Some((
+            Vec::from_slice(alloc, key)?,
+            Vec::from_slice(alloc, value)?,
+        ))),
         None => Ok(None),
     }
 }

@@ -3,7 +3,7 @@
 ghost use Rattle.std.specs.Prelude.{◌≡◌, ℕ, List, [], ◌∷◌, Option, IfOk, OnOk, OnErr};
 ghost use Rattle.std.specs.Option.{option_map};
 ghost use Rattle.bd_message.specs.declared.fault.Counter.{Counter};
-ghost use Rattle.bd_message.specs.KeyMaps.{At, SameAt, IsNext, IsBatch, CanGraft, IsApplied, IsGrafted, IsLeftBy, HasMapCause, NeverWorn};
+ghost use Rattle.bd_message.specs.KeyMaps.{At, SameAt, IsNextEntry, IsBatch, CanGraft, IsApplied, IsGrafted, IsLeftBy, HasMapCause, NeverWorn};
 
 use crate::{MapFault, Message};
 
@@ -43,10 +43,11 @@ pub trait KeyMap {
         ensures cause { HasMapCause (fault_count self.old) (fault_count self.new)
             (bad self.new) NeverWorn result };
 
-    /// The least key that is at least `from`, begins with `within` and has a value.
-    fn next(&mut self, from: &[u8], within: &[u8]) -> Result<Option<Vec<u8>>, MapFault>
+    /// The least key that is at least `from`, begins with `within` and has a value, and that value.
+    fn next(&mut self, from: &[u8], within: &[u8]) -> Result<Option<(Vec<u8>, Vec<u8>)>, MapFault>
         ensures next { is_known self.old → IfOk result (λ found.
-            IsNext (has self.old) from.now within.now (option_map (λ key. key.items) found)) }
+            IsNextEntry (has self.old) from.now within.now
+            (option_map (λ entry. (entry.0.items, entry.1.items)) found)) }
         ensures left { IsLeftBy is_known has room_of worn reads loans self.old self.new }
         ensures cause { HasMapCause (fault_count self.old) (fault_count self.new)
             (bad self.new) NeverWorn result };
@@ -116,7 +117,7 @@ impl<M: KeyMap> KeyMap for &mut M {
         KeyMap::get(&mut **self, key)
     }
 
-    fn next(&mut self, from: &[u8], within: &[u8]) -> Result<Option<Vec<u8>>, MapFault> {
+    fn next(&mut self, from: &[u8], within: &[u8]) -> Result<Option<(Vec<u8>, Vec<u8>)>, MapFault> {
         KeyMap::next(&mut **self, from, within)
     }
 

@@ -138,8 +138,7 @@ impl Messages {
         }
     }
 
-    /// A copy of the messages with others after them, with an index. These are moved, and what is
-    /// copied has memory for all at once.
+    /// A copy of the messages with others after them, with an index.
     pub fn followed_by(&self, list: Messages) -> Result<Messages, AllocError>
         ensures { IfOk result (λ all. all ≡ self.now ++ list) }
     {
