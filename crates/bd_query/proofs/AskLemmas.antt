@@ -23,42 +23,42 @@ use Rattle.bd_query.proofs.StretchLemmas.{newest_there}
 asked_rest : (ms : List Message) (k : List ℕ) (old : Option Question) → ((i : ℕ) (m : Message) → slice_get ms i ≡ Some m → touches m k ≡ false) → asked_after ms k old ≡ old
 asked_rest [] k old none = refl
 asked_rest (m ∷ ms) k old none =
-    ap (λ (q : Option Question). asked_after ms k q) (cond-false (touches m k) (asked_by m k) old (none zero m refl)) ∙ asked_rest ms k old (λ i n there. none (suc i) n there)
+    ap (λ (q : Option Question). asked_after ms k q) (cond-false (touches m k) (asked_by m k old) old (none zero m refl)) ∙ asked_rest ms k old (λ i n there. none (suc i) n there)
 
 asked_from : (ms : List Message) (k : List ℕ) (from : ℕ) (old : Option Question) → ((i : ℕ) (m : Message) → from ≤ i → slice_get ms i ≡ Some m → touches m k ≡ false) → asked_after (drop from ms) k old ≡ old
 asked_from ms k zero old none = asked_rest ms k old (λ i m there. none i m (omega arith) there)
 asked_from [] k (suc from) old none = refl
 asked_from (n ∷ ms) k (suc from) old none = asked_from ms k from old (λ i m le there. none (suc i) m (omega arith) there)
 
--- and the newest that changes it decides
-asked_newest_at : (ms : List Message) (k : List ℕ) (from place : ℕ) (m : Message) (old : Option Question) → from ≤ place → slice_get ms place ≡ Some m → touches m k ≡ true
-    → ((i : ℕ) (n : Message) → suc place ≤ i → slice_get ms i ≡ Some n → touches n k ≡ false) → asked_after (drop from ms) k old ≡ asked_by m k
-asked_newest_at [] k from place m old le there changes none = absurd (none-some m there)
-asked_newest_at (n ∷ ms) k zero zero m old le there changes none =
+-- and the newest that changes it decides, where it asks the same whoever was asked before
+asked_newest_at : (ms : List Message) (k : List ℕ) (from place : ℕ) (m : Message) (old asks : Option Question) → ((o : Option Question) → asked_by m k o ≡ asks) → from ≤ place → slice_get ms place ≡ Some m → touches m k ≡ true
+    → ((i : ℕ) (n : Message) → suc place ≤ i → slice_get ms i ≡ Some n → touches n k ≡ false) → asked_after (drop from ms) k old ≡ asks
+asked_newest_at [] k from place m old asks says le there changes none = absurd (none-some m there)
+asked_newest_at (n ∷ ms) k zero zero m old asks says le there changes none =
     let same : n ≡ m = same_Some n m there in
-    ap (λ (q : Option Question). asked_after ms k q) (ap (λ (l : Message). cond (touches l k) (asked_by l k) old) same ∙ cond-true (touches m k) (asked_by m k) old changes)
-    ∙ asked_rest ms k (asked_by m k) (λ i l at_i. none (suc i) l (omega arith) at_i)
-asked_newest_at (n ∷ ms) k zero (suc place) m old le there changes none =
-    asked_newest_at ms k zero place m (cond (touches n k) (asked_by n k) old) (omega arith) there changes (λ i l high at_i. none (suc i) l (omega arith) at_i)
-asked_newest_at (n ∷ ms) k (suc from) zero m old le there changes none = absurd (omega arith)
-asked_newest_at (n ∷ ms) k (suc from) (suc place) m old le there changes none =
-    asked_newest_at ms k from place m old (omega arith) there changes (λ i l high at_i. none (suc i) l (omega arith) at_i)
+    ap (λ (q : Option Question). asked_after ms k q) (ap (λ (l : Message). cond (touches l k) (asked_by l k old) old) same ∙ cond-true (touches m k) (asked_by m k old) old changes ∙ says old)
+    ∙ asked_rest ms k asks (λ i l at_i. none (suc i) l (omega arith) at_i)
+asked_newest_at (n ∷ ms) k zero (suc place) m old asks says le there changes none =
+    asked_newest_at ms k zero place m (cond (touches n k) (asked_by n k old) old) asks says (omega arith) there changes (λ i l high at_i. none (suc i) l (omega arith) at_i)
+asked_newest_at (n ∷ ms) k (suc from) zero m old asks says le there changes none = absurd (omega arith)
+asked_newest_at (n ∷ ms) k (suc from) (suc place) m old asks says le there changes none =
+    asked_newest_at ms k from place m old asks says (omega arith) there changes (λ i l high at_i. none (suc i) l (omega arith) at_i)
 
-pub asked_newest : (ms : List Message) (k : List ℕ) (from place : ℕ) (m : Message) (old : Option Question) → from ≤ place → slice_get ms place ≡ Some m → touches m k ≡ true → NoneTouches ms (place + 1) (length ms) k
-    → asked_after (drop from ms) k old ≡ asked_by m k
-asked_newest ms k from place m old le there changes none =
-    asked_newest_at ms k from place m old le there changes (λ i n high at_i. none i n (omega arith) (slice_get_within ms i n at_i) at_i)
+pub asked_newest : (ms : List Message) (k : List ℕ) (from place : ℕ) (m : Message) (old asks : Option Question) → ((o : Option Question) → asked_by m k o ≡ asks) → from ≤ place → slice_get ms place ≡ Some m → touches m k ≡ true → NoneTouches ms (place + 1) (length ms) k
+    → asked_after (drop from ms) k old ≡ asks
+asked_newest ms k from place m old asks says le there changes none =
+    asked_newest_at ms k from place m old asks says le there changes (λ i n high at_i. none i n (omega arith) (slice_get_within ms i n at_i) at_i)
 
 pub asked_none : (ms : List Message) (k : List ℕ) (from : ℕ) (old : Option Question) → NoneTouches ms from (length ms) k → asked_after (drop from ms) k old ≡ old
 asked_none ms k from old none = asked_from ms k from old (λ i m le at_i. none i m le (slice_get_within ms i m at_i) at_i)
 
 -- the newest message that changes the first key of a stretch decides whom is asked there
-pub newest_asks : (ms : List Message) (seen : ℕ) (lo : List ℕ) (end : Option (List ℕ)) (place : ℕ) (m : Message) (old : Option Question) → IsNewest ms seen lo (Some place) end → IsBelowEnd lo end → m ≡ get_or ms place m
-    → asked_after (drop seen ms) lo old ≡ asked_by m lo
-newest_asks ms seen lo end place m old newest above is =
+pub newest_asks : (ms : List Message) (seen : ℕ) (lo : List ℕ) (end : Option (List ℕ)) (place : ℕ) (m : Message) (old asks : Option Question) → ((o : Option Question) → asked_by m lo o ≡ asks) → IsNewest ms seen lo (Some place) end → IsBelowEnd lo end → m ≡ get_or ms place m
+    → asked_after (drop seen ms) lo old ≡ asks
+newest_asks ms seen lo end place m old asks says newest above is =
     let there : slice_get ms place ≡ Some m = newest_there ms seen lo end place m newest is in
     let found = newest.2 in
-    asked_newest ms lo seen place m old newest.0 there (subst (λ (n : Message). touches n lo ≡ true) (same_Some found.0 m (sym found.1 ∙ there)) found.2) (newest.1 lo (not_below_itself lo, above))
+    asked_newest ms lo seen place m old asks says newest.0 there (subst (λ (n : Message). touches n lo ≡ true) (same_Some found.0 m (sym found.1 ∙ there)) found.2) (newest.1 lo (not_below_itself lo, above))
 
 pub none_asks : (ms : List Message) (seen : ℕ) (lo : List ℕ) (end : Option (List ℕ)) (old : Option Question) → IsNewest ms seen lo None end → IsBelowEnd lo end → asked_after (drop seen ms) lo old ≡ old
 none_asks ms seen lo end old newest above = asked_none ms lo seen old (newest lo (not_below_itself lo, above))

@@ -1,4 +1,4 @@
--- Which nodes are asked whether a key has a value.
+-- Which nodes are asked what a key has.
 use Rattle.std.specs.Prelude.{◌≡◌, ℕ, ◌+◌, ◌⊎◌, if◌then◌else◌, List, [], ◌∷◌, ◌++◌, drop, Option, None, Some}
 use Rattle.std.specs.Option.{option_map}
 use Rattle.bd_keys.specs.Keys.{IsBelow, IsAtLeast}
@@ -11,7 +11,10 @@ use Rattle.bd_node.specs.declared.node.Node.TheVariants.{Leaf, Inner}
 use Rattle.bd_node.specs.Nodes.{edge_of}
 use Rattle.bd_node.specs.Meaning.{Nodes}
 use Rattle.bd_node.specs.Touching.{touches}
-use Rattle.bd_node.specs.Stores.{visited}
+use Rattle.bd_node.specs.Stores.{visited, AreVisits}
+use Rattle.bd_node.specs.Tables.{Table}
+use Rattle.bd_query.specs.declared.part.Base.{Base}
+use Rattle.bd_query.specs.declared.part.Base.TheVariants.{Value, Ask}
 use Rattle.bd_query.specs.declared.stretch.Stretch.{Stretch}
 use Rattle.bd_query.specs.declared.stretch.Stretch.TheVariants.{Present, Next, Absent, Child}
 
@@ -19,18 +22,19 @@ use Rattle.bd_query.specs.declared.stretch.Stretch.TheVariants.{Present, Next, A
 abbrev pub Question : Type 0
 Question = ℕ × List ℕ
 
--- whom a message asks at a key that it changes: only a Goto asks a node
-abbrev pub asked_by : Message → List ℕ → Option Question
-asked_by (Put key value) k = None
-asked_by (Del key) k = None
-asked_by (Patch key off bytes) k = None
-asked_by (Cut prefix from) k = None
-asked_by (Goto prefix source child) k = Some (child, source ++ rest prefix k)
+-- who is asked after a message that changes the key: only a Goto asks another node, and what is
+-- patched is asked still
+abbrev pub asked_by : Message → List ℕ → Option Question → Option Question
+asked_by (Put key value) k old = None
+asked_by (Del key) k old = None
+asked_by (Patch key off bytes) k old = old
+asked_by (Cut prefix from) k old = None
+asked_by (Goto prefix source child) k old = Some (child, source ++ rest prefix k)
 
--- whom the newest of these messages that changes the key asks, or else the one that is asked before
+-- who is asked after these messages
 abbrev pub asked_after : List Message → List ℕ → Option Question → Option Question
 asked_after [] k old = old
-asked_after (m ∷ ms) k old = asked_after ms k (if touches m k then asked_by m k else old)
+asked_after (m ∷ ms) k old = asked_after ms k (if touches m k then asked_by m k old else old)
 
 -- whom an edge asks: its child, if there is one
 abbrev pub asked_first : Edge → List ℕ → Option Question
@@ -42,15 +46,21 @@ asked_through None buffer k = None
 asked_through (Some e) buffer k =
     asked_after (drop e.seen buffer) k (asked_first e k)
 
--- whom a node asks whether a key has a value: at most one node, and none where a cut decides
+-- whom a node asks what a key has: at most one node, and none where a message gives or takes all of
+-- the value
 abbrev pub asked_at : Node → List ℕ → Option Question
 asked_at (Leaf entries) k = None
 asked_at (Inner level edges buffer) k = asked_through (edge_of edges k) buffer k
 
+-- whom the base of a value asks
+abbrev pub asked_of : Base → Option Question
+asked_of (Value found) = None
+asked_of (Ask child key) = Some (child, key)
+
 -- whom a stretch asks
 abbrev pub asked_in : Stretch → List ℕ → Option Question
-asked_in Present k = None
-asked_in (Next key) k = None
+asked_in (Present part) k = asked_of part.base
+asked_in (Next key value) k = None
 asked_in (Absent end) k = None
 asked_in (Child end child lift source) k = Some (child, source ++ drop lift k)
 
@@ -79,6 +89,16 @@ pub record AreVisitsOfWay (nodes : Nodes) (id : ℕ) (k : List ℕ) (before afte
   pub number : ℕ
   pub way : IsWayDown nodes id k number
   pub counted : after ≡ visited before number
+
+-- as many as on the way that is left, none where nobody is asked
+abbrev pub AreVisitsOfRest : Nodes → Option Question → ℕ → ℕ → Type 0
+AreVisitsOfRest nodes None before after = after ≡ before
+AreVisitsOfRest nodes (Some asked) before after = AreVisitsOfWay nodes asked.0 asked.1 before after
+
+-- so many visits, of at most as many nodes as levels from the one down that is asked
+abbrev pub AreFewOfRest : Table → Option Question → ℕ → ℕ → Type 0
+AreFewOfRest t None before after = after ≡ before
+AreFewOfRest t (Some asked) before after = AreVisits 1 (t.level asked.0 + 1) before after
 
 -- as many as on ways down along rising keys, none where there is no way
 pub record AreVisitsOfWays (nodes : Nodes) (root : ℕ) (from : List ℕ) (before after : ℕ)

@@ -10,6 +10,7 @@ use Rattle.bd_node.specs.declared.node.Edge.{Edge}
 use Rattle.bd_node.specs.Tables.{Table, IsLower}
 use Rattle.bd_node.specs.Index.{touches_at}
 use Rattle.bd_node.specs.Touching.{touches, NoneTouches}
+use Rattle.bd_query.specs.Looks.{part_at, IsNamedIn, IsLowerBase}
 use Rattle.bd_query.specs.declared.stretch.Stretch.{Stretch}
 use Rattle.bd_query.specs.declared.stretch.Stretch.TheVariants.{Present, Next, Absent, Child}
 use Rattle.bd_query.specs.declared.turns.Turn.{Turn}
@@ -31,6 +32,14 @@ abbrev pub end_limit : ℕ
 end_limit = key_limit + 1
 
 -- ---- messages
+
+-- whether a message leaves a value at a key that it changes, whatever the nodes have
+abbrev pub gives_value : Message → Bool
+gives_value (Put key value) = true
+gives_value (Del key) = false
+gives_value (Patch key off bytes) = true
+gives_value (Cut prefix from) = false
+gives_value (Goto prefix source child) = false
 
 -- the least key at which a message can change anything
 abbrev pub first_key : Message → List ℕ
@@ -69,11 +78,11 @@ IsNewest list seen lo None end = NoneFrom list seen lo end
 abbrev pub IsEmpty : At → List ℕ → Option (List ℕ) → Type 0
 IsEmpty at lo end = (k : List ℕ) → IsKey k → InRange lo end k → at k ≡ None
 
--- the first of the keys from this one on that have a value
-pub record IsFirst (at : At) (lo key : List ℕ) : Type 0 where
+-- the first of the keys from this one on that have a value, and that value
+pub record IsFirst (at : At) (lo key value : List ℕ) : Type 0 where
   pub on : IsAtLeast key lo
   pub empty : IsEmpty at lo (Some key)
-  pub some : IsSome (at key)
+  pub has : at key ≡ Some value
 
 -- each key from this one up to the end has its first bytes, as many as the lift says, and what the
 -- child has at the source and the key's other bytes
@@ -83,38 +92,38 @@ IsAsked at child lo end lift source = (k : List ℕ) → IsKey k → InRange lo 
 
 -- what is said of what stands at a key and at the keys after it
 abbrev pub IsStretch : NodesAt → At → List ℕ → Stretch → Type 0
-IsStretch below at lo Present = IsSome (at lo)
-IsStretch below at lo (Next key) = IsKey key × IsFirst at lo key
+IsStretch below at lo (Present part) = IsSome (at lo) × (at lo ≡ part_at below part)
+IsStretch below at lo (Next key value) = IsKey key × IsFirst at lo key value
 IsStretch below at lo (Absent end) = IsEmpty at lo end
 IsStretch below at lo (Child end child lift source) =
     IsAsked at (below child) lo end lift source
 
 -- a stretch ends above the key; the lift is at most 518, and the key is as long
 abbrev pub HasEnd : List ℕ → Stretch → Type 0
-HasEnd lo Present = ⊤
-HasEnd lo (Next key) = IsEnd lo end_limit (Some key)
+HasEnd lo (Present part) = ⊤
+HasEnd lo (Next key value) = IsEnd lo end_limit (Some key)
 HasEnd lo (Absent end) = IsEnd lo end_limit end
 HasEnd lo (Child end child lift source) =
     IsEnd lo end_limit end × (lift ≤ key_limit) × (lift ≤ length lo)
 
 -- a stretch ends at this end or before it, and the next key is before it
 abbrev pub EndsBy : Option (List ℕ) → Stretch → Type 0
-EndsBy other Present = ⊤
-EndsBy other (Next key) = IsBelowEnd key other
+EndsBy other (Present part) = ⊤
+EndsBy other (Next key value) = IsBelowEnd key other
 EndsBy other (Absent end) = IsWithin end other
 EndsBy other (Child end child lift source) = IsWithin end other
 
 -- a node that is asked is one of these
 abbrev pub AsksOneOf : List ℕ → Stretch → Type 0
-AsksOneOf ns Present = ⊤
-AsksOneOf ns (Next key) = ⊤
+AsksOneOf ns (Present part) = IsNamedIn ns part.base
+AsksOneOf ns (Next key value) = ⊤
 AsksOneOf ns (Absent end) = ⊤
 AsksOneOf ns (Child end child lift source) = 1 ≤ count_by (λ name. name == child) ns
 
 -- a node that is asked is kept and of a lower level
 abbrev pub AsksLower : Table → ℕ → Stretch → Type 0
-AsksLower t level Present = ⊤
-AsksLower t level (Next key) = ⊤
+AsksLower t level (Present part) = IsLowerBase t level part.base
+AsksLower t level (Next key value) = ⊤
 AsksLower t level (Absent end) = ⊤
 AsksLower t level (Child end child lift source) = IsLower t level child
 
@@ -130,14 +139,15 @@ pub record IsWay (e : Edge) (lo : List ℕ) (end : Option (List ℕ)) : Type 0 w
 abbrev pub way_limit : ℕ → ℕ
 way_limit level = end_limit * (level + 1)
 
--- what a turn finds: that the key has a value, the next key that has one, or up to where none has
+-- what a turn finds: the key's value, the next key that has one and its value, or up to where none
+-- has one
 abbrev pub IsTurn : At → List ℕ → Turn → Type 0
-IsTurn at lo Found = IsSome (at lo)
-IsTurn at lo (Next key) = IsFirst at lo key
+IsTurn at lo (Found value) = at lo ≡ Some value
+IsTurn at lo (Next key value) = IsFirst at lo key value
 IsTurn at lo (Passed end) = IsEmpty at lo end
 
 -- a turn passes the key, to an end of at most so many bytes
 abbrev pub PassesTo : List ℕ → ℕ → Turn → Type 0
-PassesTo lo most Found = ⊤
-PassesTo lo most (Next key) = IsEnd lo most (Some key)
+PassesTo lo most (Found value) = ⊤
+PassesTo lo most (Next key value) = IsEnd lo most (Some key)
 PassesTo lo most (Passed end) = IsEnd lo most end

@@ -1,6 +1,6 @@
 //! One node's part in what stands at a key.
 
-ghost use Rattle.std.specs.Prelude.{◌≡◌, ℕ, ◌+◌, ◌≤◌, List, [], ◌++◌, drop, length, IfOk, true};
+ghost use Rattle.std.specs.Prelude.{◌≡◌, ℕ, ◌+◌, ◌≤◌, List, [], ◌++◌, drop, length, Some, IfOk, true};
 ghost use Rattle.std.specs.Option.{option_copied, unwrap_or};
 ghost use Rattle.bd_keys.specs.Edits.{overwritten};
 ghost use Rattle.std.specs.List.{AllByRecursion, flat_map};
@@ -8,8 +8,9 @@ ghost use Rattle.bd_keys.specs.Keys.{IsKey};
 ghost use Rattle.bd_message.specs.Messages.{IsMessage};
 ghost use Rattle.bd_message.specs.Effect.{NodesAt, act, acts};
 ghost use Rattle.bd_node.specs.Touching.{touches};
-ghost use Rattle.bd_node.specs.Nodes.{node_at, names, message_names, edge_names, child_at};
+ghost use Rattle.bd_node.specs.Nodes.{node_at, names, message_names, edge_names, child_at, edge_at};
 ghost use Rattle.bd_node.specs.Shape.{IsShape};
+ghost use Rattle.bd_query.specs.Asks.{asked_by, asked_after, asked_first, asked_through, asked_at, asked_of};
 ghost use Rattle.bd_query.specs.Looks.{part_at, IsNamedIn, IsOldOr};
 
 use crate::ends::joined;
@@ -42,6 +43,7 @@ pub fn part_of(alloc: Global, node: &Node, key: &[u8]) -> Result<Part, AllocErro
     ensures part { IfOk result (λ part.
         (below : NodesAt) → node_at below node.now key.now ≡ part_at below part) }
     ensures named { IfOk result (λ part. IsNamedIn (names node.now) part.base) }
+    ensures asks { IfOk result (λ part. asked_at node.now key.now ≡ asked_of part.base) }
     ensures bytes { IsKey key.now }
 {
     match node {
@@ -50,11 +52,29 @@ pub fn part_of(alloc: Global, node: &Node, key: &[u8]) -> Result<Part, AllocErro
             Ok(known(alloc, found))
         }
         Node::Inner { edges, buffer, .. } => {
-            let edge = edge_of(edges.as_slice(), key);
-            let first = asked(alloc, edge, key)?;
-            through(alloc, first, buffer, edge.seen as usize, key)
+            part_through(alloc, edge_of(edges.as_slice(), key), buffer, key)
         }
     }
+}
+
+/// What an edge and the messages that its child hasn't seen say of a key.
+pub fn part_through(
+    alloc: Global,
+    edge: &Edge,
+    buffer: &Messages,
+    key: &[u8],
+) -> Result<Part, AllocError>
+    requires seen { edge.now.seen ≤ length buffer.now }
+    requires messages { AllByRecursion IsMessage buffer.now }
+    ensures part { IfOk result (λ part. (below : NodesAt)
+        → edge_at below edge.now buffer.now key.now ≡ part_at below part) }
+    ensures named { IfOk result (λ part.
+        IsNamedIn (edge_names edge.now ++ flat_map message_names buffer.now) part.base) }
+    ensures asks { IfOk result (λ part.
+        asked_through (Some edge.now) buffer.now key.now ≡ asked_of part.base) }
+{
+    let first = asked(alloc, edge, key)?;
+    through(alloc, first, buffer, edge.seen as usize, key)
 }
 
 // A copy of a value, if there is one.
@@ -68,8 +88,9 @@ fn copied(alloc: Global, value: Option<&[u8]>) -> Result<Option<Bytes>, AllocErr
 }
 
 // A value that is known.
-fn known(alloc: Global, found: Option<Bytes>) -> Part
+pub fn known(alloc: Global, found: Option<Bytes>) -> Part
     ensures part { (below : NodesAt) → part_at below result ≡ found }
+    ensures base { result.base ≡ Base.Value found }
     ensures named { (ns : List ℕ) → IsNamedIn ns result.base }
 {
     Part {
@@ -94,6 +115,7 @@ fn asked(alloc: Global, edge: &Edge, key: &[u8]) -> Result<Part, AllocError>
     ensures part { IfOk result (λ part. (below : NodesAt) → part_at below part
         ≡ child_at below edge.now.child (edge.now.source ++ drop edge.now.lift key.now)) }
     ensures named { IfOk result (λ part. IsNamedIn (edge_names edge.now) part.base) }
+    ensures asks { IfOk result (λ part. asked_of part.base ≡ asked_first edge.now key.now) }
 {
     match edge.child {
         Some(child) => {
@@ -118,6 +140,8 @@ fn through(
         ≡ acts below (drop seen buffer.now) key.now (part_at below first)) }
     ensures named { IfOk result (λ part.
         IsOldOr (flat_map message_names buffer.now) first.base part.base) }
+    ensures asks { IfOk result (λ part. asked_of part.base
+        ≡ asked_after (drop seen buffer.now) key.now (asked_of first.base)) }
 {
     let mut part = first;
     let mut place = seen;
@@ -136,6 +160,8 @@ fn changed(alloc: Global, part: Part, message: &Message, key: &[u8]) -> Result<P
         → part_at below new ≡ act below message.now key.now (part_at below part)) }
     ensures named { IfOk result (λ new.
         IsOldOr (message_names message.now) part.base new.base) }
+    ensures asks { IfOk result (λ new.
+        asked_of new.base ≡ asked_by message.now key.now (asked_of part.base)) }
 {
     match message {
         Message::Put { value, .. } => Ok(known(alloc, Some(value.clone()?))),

@@ -4,7 +4,7 @@ ghost use Rattle.std.specs.Prelude.{◌≡◌, if◌then◌else◌, ℕ, List, S
 ghost use Rattle.std.specs.Option.{option_map};
 ghost use Rattle.bd_keys.specs.Keys.{IsAtLeast};
 ghost use Rattle.bd_message.specs.Effect.{begins};
-ghost use Rattle.bd_message.specs.KeyMaps.{HasMapCause, NeverWorn, IsNext};
+ghost use Rattle.bd_message.specs.KeyMaps.{HasMapCause, NeverWorn, IsNextEntry};
 ghost use Rattle.bd_node.specs.Frames.{OfSound, OnlyReads};
 ghost use Rattle.bd_node.specs.Meaning.{at};
 ghost use Rattle.bd_node.specs.Tables.{IsKept};
@@ -18,7 +18,7 @@ use bd_node::NodeStore;
 use std::alloc::{AllocError, Global};
 
 /// The least key of a kept node, of any length, that is at least `from`, begins with `within` and
-/// has a value. Each turn rules out the keys from one up to another; the search ends at that one
+/// has a value, and that value. Each turn rules out the keys from one up to another; the search ends at that one
 /// where the turn finds that it has a value, and else goes on there. The nodes that are visited are
 /// those that are asked on ways down along these keys; a way goes no further where a cut decides,
 /// so what lies below a range that was cut is not visited.
@@ -28,11 +28,11 @@ pub fn next<S: NodeStore>(
     root: u64,
     from: &[u8],
     within: &[u8],
-) -> Result<Option<Vec<u8>>, MapFault>
+) -> Result<Option<(Vec<u8>, Vec<u8>)>, MapFault>
     requires { IsKept (S.table store.old) root }
     ensures next { OfSound S.NodeStore store.old
-        (IfOk result (λ found. IsNext (at (S.nodes store.old) root) from.now within.now
-        (option_map (λ key. key.items) found))) }
+        (IfOk result (λ found. IsNextEntry (at (S.nodes store.old) root) from.now within.now
+        (option_map (λ entry. (entry.0.items, entry.1.items)) found))) }
     ensures left { OnlyReads S.NodeStore store.old store.new }
     ensures cause { HasMapCause (S.fault_count store.old) (S.fault_count store.new)
         (S.bad store.new) NeverWorn result }
@@ -45,8 +45,8 @@ pub fn next<S: NodeStore>(
     let mut low = Vec::from_slice(alloc, greater(from, within))?;
     'turns: while starts(low.as_slice(), within) {
         match turn_at(alloc, store, root, low.as_slice())? {
-            Turn::Found => return Ok(Some(low)),
-            Turn::Next { key } => return Ok(beginning(key, within)?),
+            Turn::Found { value } => return Ok(Some((low, value.into_vec()?))),
+            Turn::Next { key, value } => return Ok(beginning(key, value, within)?),
             Turn::Passed { end: None } => return Ok(None),
             Turn::Passed { end: Some(end) } => {
                 let _bytes = bytes_of(end.as_slice());
@@ -57,13 +57,18 @@ pub fn next<S: NodeStore>(
     Ok(None)
 }
 
-// The key, if it begins with a prefix.
-fn beginning(key: Bytes, prefix: &[u8]) -> Result<Option<Vec<u8>>, AllocError>
-    ensures { IfOk result (λ found. option_map (λ found. found.items) found
-        ≡ (if begins key prefix.now then Some key else None)) }
+// The key and its value, if it begins with a prefix.
+fn beginning(
+    key: Bytes,
+    value: Bytes,
+    prefix: &[u8],
+) -> Result<Option<(Vec<u8>, Vec<u8>)>, AllocError>
+    ensures { IfOk result (λ found.
+        option_map {U = List ℕ × List ℕ} (λ entry. (entry.0.items, entry.1.items)) found
+        ≡ (if begins key prefix.now then Some (key, value) else None)) }
 {
     if starts(key.as_slice(), prefix) {
-        Ok(Some(key.into_vec()?))
+        Ok(Some((key.into_vec()?, value.into_vec()?)))
     } else {
         Ok(None)
     }

@@ -1,6 +1,6 @@
 //! What one node says of a key and of the keys after it.
 
-ghost use Rattle.std.specs.Prelude.{◌≡◌, ℕ, ◌+◌, ◌-◌, ◌*◌, ◌<◌, ◌≤◌, true, List, [], ◌++◌, length, drop, Option, None, Some, IfOk, IfSome, slice_get};
+ghost use Rattle.std.specs.Prelude.{◌≡◌, ℕ, ◌+◌, ◌-◌, ◌*◌, ◌<◌, ◌≤◌, true, false, List, [], ◌++◌, length, drop, Option, None, Some, IfOk, IfSome, slice_get};
 ghost use Rattle.std.specs.List.{AllByRecursion, flat_map};
 ghost use Rattle.bd_message.specs.Messages.{IsMessage};
 ghost use Rattle.bd_message.specs.Effect.{NodesAt, act};
@@ -9,10 +9,11 @@ ghost use Rattle.bd_node.specs.Touching.{NoneTouches, touches};
 ghost use Rattle.bd_node.specs.Nodes.{node_at, names, message_names, edge_names, child_at, edge_of, edge_at, entry_at};
 ghost use Rattle.bd_node.specs.Shape.{IsShape, IsEntry, IsRising, AreRising};
 ghost use Rattle.bd_leaf.specs.Places.{IsPlace};
-ghost use Rattle.bd_query.specs.Asks.{asked_by, asked_first, asked_through, asked_at, asked_in};
-ghost use Rattle.bd_query.specs.Stretches.{IsEnd, IsWithin, IsNewest, NoneAmong, after, IsWay, IsStretch, HasEnd, EndsBy, AsksOneOf, end_limit};
+ghost use Rattle.bd_query.specs.Asks.{Question, asked_by, asked_first, asked_through, asked_at, asked_in};
+ghost use Rattle.bd_query.specs.Stretches.{IsEnd, IsWithin, IsNewest, NoneAmong, after, gives_value, IsWay, IsStretch, HasEnd, EndsBy, AsksOneOf, end_limit};
 
 use crate::ends::{bytes_of, copied_end, end_within, narrowed, successor};
+use crate::part::{Part, known, part_through};
 use bd_keys::Bytes;
 use bd_message::Message;
 use bd_node::{Edge, Entry, Messages, Node, Steps, end_of};
@@ -23,11 +24,12 @@ use std::sync::ledger::{Blank, Ledger};
 /// What one node says of a key and of the keys after it.
 #[derive(Drop)]
 pub enum Stretch {
-    /// The key has a value.
-    Present,
-    /// No key from this one up to `key` has a value, and that one has.
+    /// The key has a value, of which this is known.
+    Present(Part),
+    /// No key from this one up to `key` has a value, and that one has this one.
     Next {
         key: Bytes,
+        value: Bytes,
     },
     /// No key from this one up to the end has one.
     Absent {
@@ -62,7 +64,7 @@ pub fn stretch_of(alloc: Global, node: &Node, key: &[u8]) -> Result<Stretch, All
         asked_at node.now key.now ≡ asked_in stretch key.now) }
 {
     match node {
-        Node::Leaf(entries) => among(entries.as_slice(), key),
+        Node::Leaf(entries) => among(alloc, entries.as_slice(), key),
         Node::Inner { edges, buffer, .. } => {
             let edges = edges.as_slice();
             let place = edge_place(edges, key);
@@ -73,7 +75,7 @@ pub fn stretch_of(alloc: Global, node: &Node, key: &[u8]) -> Result<Stretch, All
 }
 
 // What the entries of a leaf say.
-fn among(entries: &[Entry], key: &[u8]) -> Result<Stretch, AllocError>
+fn among(alloc: Global, entries: &[Entry], key: &[u8]) -> Result<Stretch, AllocError>
     requires rising { IsRising entries.now }
     requires short { AllByRecursion IsEntry entries.now }
     ensures stretch { IfOk result (λ stretch. (below : NodesAt)
@@ -83,12 +85,16 @@ fn among(entries: &[Entry], key: &[u8]) -> Result<Stretch, AllocError>
     ensures asks { IfOk result (λ stretch. asked_in stretch key.now ≡ None) }
 {
     match search(entries, key) {
-        Ok(_place) => Ok(Stretch::Present),
+        Ok(place) => {
+            let value = entries[place].value.clone()?;
+            Ok(Stretch::Present(known(alloc, Some(value))))
+        }
         Err(place) => match entries.get(place) {
             Some(entry) => {
                 let key = entry.key.clone()?;
+                let value = entry.value.clone()?;
                 let _bytes = bytes_of(key.as_slice());
-                Ok(Stretch::Next { key })
+                Ok(Stretch::Next { key, value })
             }
             None => Ok(Stretch::Absent { end: None }),
         },
@@ -163,6 +169,9 @@ fn through(
     let Newest { place, end } = newest_touching(alloc, buffer, edge.seen as usize, key, end)?;
     let list = buffer.as_slice();
     match place {
+        Some(place) if gives_value(&list[place]) => {
+            Ok(Stretch::Present(part_through(alloc, edge, buffer, key)?))
+        }
         Some(place) => of_message(alloc, &list[place], key, end),
         None => of_edge(edge, key, end),
     }
@@ -253,7 +262,14 @@ fn before_ranges(
     Ok(end)
 }
 
-// What a message says that can change the key.
+// Whether a message leaves a value at a key that it changes, whatever the nodes have.
+fn gives_value(message: &Message) -> bool
+    ensures { result ≡ gives_value message.now }
+{
+    matches!(message, Message::Put { .. } | Message::Patch { .. })
+}
+
+// What a message says that can change the key, and gives it no value of its own.
 fn of_message(
     alloc: Global,
     message: &Message,
@@ -262,17 +278,18 @@ fn of_message(
 ) -> Result<Stretch, AllocError>
     requires message { IsMessage message.now }
     requires touches { touches message.now key.now ≡ true }
+    requires takes { gives_value message.now ≡ false }
     requires end { IsEnd key.now end_limit end }
     ensures stretch { IfOk result (λ stretch. (below : NodesAt) (old : Option (List ℕ))
         → IsStretch below (λ k. act below message.now k old) key.now stretch) }
     ensures end { IfOk result (λ stretch. HasEnd key.now stretch) }
     ensures within { IfOk result (λ stretch. EndsBy end stretch) }
     ensures named { IfOk result (λ stretch. AsksOneOf (message_names message.now) stretch) }
-    ensures asks { IfOk result (λ stretch.
-        asked_by message.now key.now ≡ asked_in stretch key.now) }
+    ensures asks { IfOk result (λ stretch. (old : Option Question)
+        → asked_by message.now key.now old ≡ asked_in stretch key.now) }
 {
     match message {
-        Message::Put { .. } | Message::Patch { .. } => Ok(Stretch::Present),
+        Message::Put { .. } | Message::Patch { .. } => unreachable!(),
         Message::Del { .. } => {
             let end = Some(successor(alloc, key)?);
             Ok(Stretch::Absent { end })

@@ -1,5 +1,5 @@
-//! Turns of a search: each is one way down along a key, and finds that the key has a value, which
-//! key is the next that has one, or up to which key none has one.
+//! Turns of a search: each is one way down along a key, and finds the key's value, which key is the
+//! next that has one and its value, or up to which key none has one.
 
 ghost use Rattle.std.specs.Prelude.{◌≡◌, ℕ, ◌+◌, ◌≤◌, List, ◌++◌, length, take, drop, Some, IsSome, IfOk, OnOk};
 ghost use Rattle.bd_limits.specs.Limits.{key_limit};
@@ -17,6 +17,7 @@ ghost use Rattle.bd_query.specs.Asks.{asked_at, asked_in, AreVisitsOfWay};
 
 use crate::ends::{bytes_of, joined, lesser};
 use crate::stretch::{Stretch, stretch_of};
+use crate::ways::value_of;
 use bd_keys::{Bytes, front, starts, tail};
 use bd_message::MapFault;
 use bd_node::NodeStore;
@@ -25,17 +26,17 @@ use std::alloc::{AllocError, Global};
 /// What a turn finds.
 #[derive(Drop)]
 pub enum Turn {
-    /// The key has a value.
-    Found,
-    /// No key from this one up to `key` has one, and that one has.
-    Next { key: Bytes },
+    /// The key has this value.
+    Found { value: Bytes },
+    /// No key from this one up to `key` has one, and that one has this one.
+    Next { key: Bytes, value: Bytes },
     /// No key from this one up to the end has one.
     Passed { end: Option<Bytes> },
 }
 
-/// One way down from a kept node along a key: it finds a value there, or the next key that has one,
-/// or up to which end above it no key has one. A node asks at most one other, and none where a cut
-/// decides.
+/// One way down from a kept node along a key: it finds the value there, or the next key that has one
+/// and its value, or up to which end above it no key has one. A node asks at most one other, and none
+/// where a message gives or takes all of the value.
 pub fn turn_at<S: NodeStore>(
     alloc: Global,
     store: &mut S,
@@ -60,8 +61,11 @@ pub fn turn_at<S: NodeStore>(
         (S.visit_count store.old) (S.visit_count store.new))) }
 {
     match stretch_at(alloc, store, id, key)? {
-        Stretch::Present => Ok(Turn::Found),
-        Stretch::Next { key } => Ok(Turn::Next { key }),
+        Stretch::Present(part) => {
+            let value = value_of(alloc, store, part)?;
+            Ok(Turn::Found { value })
+        }
+        Stretch::Next { key, value } => Ok(Turn::Next { key, value }),
         Stretch::Absent { end } => Ok(Turn::Passed { end }),
         Stretch::Child {
             end,
@@ -124,10 +128,10 @@ fn raised(
         → PassesTo key.now (end_limit + most) new) }
 {
     match turn {
-        Turn::Found => Ok(Turn::Found),
-        Turn::Next { key: below } => {
+        Turn::Found { value } => Ok(Turn::Found { value }),
+        Turn::Next { key: below, value } => {
             let next = end_above(alloc, Some(below), key, lift, source)?;
-            Ok(next_before(next, end))
+            Ok(next_before(next, value, end))
         }
         Turn::Passed { end: below } => {
             let below = end_above(alloc, below, key, lift, source)?;
@@ -139,10 +143,11 @@ fn raised(
 
 // What a node's turn is where its child's finds a key: that key where it is below the node's end,
 // and else only the end is known. Where no key of the node stands for the child's, it is none.
-fn next_before(next: Option<Bytes>, end: Option<Bytes>) -> Turn
+fn next_before(next: Option<Bytes>, value: Bytes, end: Option<Bytes>) -> Turn
     ensures turn { (at : At) (lo : List ℕ)
         → ((k : List ℕ) → IsKey k → InRange lo end k → IsBelowEnd k next → at k ≡ None)
-        → ((k : List ℕ) → next ≡ Some k → IsBelowEnd k end → IsAtLeast k lo × IsSome (at k))
+        → ((k : List ℕ) → next ≡ Some k → IsBelowEnd k end
+        → IsAtLeast k lo × (at k ≡ Some value))
         → IsTurn at lo result }
     ensures passes { (lo : List ℕ) (most : ℕ) → IsEnd lo most next → IsEnd lo most end
         → PassesTo lo most result }
@@ -150,12 +155,12 @@ fn next_before(next: Option<Bytes>, end: Option<Bytes>) -> Turn
     match (next, end) {
         (Some(key), Some(end)) => {
             if key.cmp(&end).is_lt() {
-                Turn::Next { key }
+                Turn::Next { key, value }
             } else {
                 Turn::Passed { end: Some(end) }
             }
         }
-        (Some(key), None) => Turn::Next { key },
+        (Some(key), None) => Turn::Next { key, value },
         (None, end) => Turn::Passed { end },
     }
 }

@@ -1,6 +1,6 @@
 //! The way down from a node to what it has at a key.
 
-ghost use Rattle.std.specs.Prelude.{◌≡◌, ◌+◌, ◌≤◌, [], Some, IfOk, OnOk};
+ghost use Rattle.std.specs.Prelude.{◌≡◌, ℕ, ◌+◌, ◌≤◌, List, [], Some, IsSome, IfOk, OnOk};
 ghost use Rattle.std.specs.Option.{option_map, unwrap_or};
 ghost use Rattle.bd_keys.specs.Keys.{IsKey};
 ghost use Rattle.bd_message.specs.Effect.{NodesAt};
@@ -12,6 +12,8 @@ ghost use Rattle.bd_node.specs.Meaning.{at};
 ghost use Rattle.bd_node.specs.Tables.{IsKept};
 ghost use Rattle.bd_node.specs.Stores.{visited, AreVisits};
 ghost use Rattle.bd_query.specs.Looks.{patched, part_at, IsLowerBase};
+ghost use Rattle.bd_query.specs.Asks.{asked_at, asked_of, AreVisitsOfWay, AreVisitsOfRest, AreFewOfRest};
+ghost use Rattle.bd_query.specs.declared.part.Base.TheVariants as base;
 
 use crate::part::{Base, Part, part_of};
 use crate::patch::Patch;
@@ -39,6 +41,9 @@ pub fn get<S: NodeStore>(
         (S.visit_count store.old) (S.visit_count store.new)) }
     ensures few_visits { S.visit_count store.new
         ≤ S.visit_count store.old + ((S.table store.old).level root + 1) }
+    ensures way { OfSound S.NodeStore store.old
+        (OnOk result (AreVisitsOfWay (S.nodes store.old) root key.now
+        (S.visit_count store.old) (S.visit_count store.new))) }
 {
     let mut id = root;
     let mut asked = Bytes::from_slice(alloc, key)?;
@@ -74,6 +79,8 @@ fn fetched<S: NodeStore>(
         → node_at below n key.now ≡ part_at below part) }
     ensures lower { IfOk result (λ part.
         IsLowerBase (S.table store.old) ((S.table store.old).level id) part.base) }
+    ensures asks { S.is_known store.old → IfOk result (λ part. (n : Node)
+        → S.nodes store.old id ≡ Some n → asked_at n key.now ≡ asked_of part.base) }
     ensures bytes { IsKey key.now }
     ensures left { OnlyReads S.NodeStore store.old store.new }
     ensures cause { HasMapCause (S.fault_count store.old) (S.fault_count store.new)
@@ -82,6 +89,36 @@ fn fetched<S: NodeStore>(
 {
     let node = store.fetch(id)?;
     Ok(part_of(alloc, &node, key)?)
+}
+
+/// The value that a node's part says, where there is one. The nodes that are visited are those that
+/// are asked on the way down that is left.
+pub fn value_of<S: NodeStore>(alloc: Global, store: &mut S, part: Part) -> Result<Bytes, MapFault>
+    requires { (child : ℕ) (key : List ℕ) → part.base ≡ base.Ask child key
+        → IsKept (S.table store.old) child }
+    ensures value { OfSound S.NodeStore store.old (IfOk result (λ value.
+        IsSome (part_at (at (S.nodes store.old)) part)
+        → part_at (at (S.nodes store.old)) part ≡ Some value)) }
+    ensures left { OnlyReads S.NodeStore store.old store.new }
+    ensures cause { HasMapCause (S.fault_count store.old) (S.fault_count store.new)
+        (S.bad store.new) NeverWorn result }
+    ensures visits { OnOk result (AreFewOfRest (S.table store.old) (asked_of part.base)
+        (S.visit_count store.old) (S.visit_count store.new)) }
+    ensures few_visits { (level : ℕ) → IsLowerBase (S.table store.old) level part.base
+        → S.visit_count store.new ≤ S.visit_count store.old + level }
+    ensures way { OfSound S.NodeStore store.old
+        (OnOk result (AreVisitsOfRest (S.nodes store.old) (asked_of part.base)
+        (S.visit_count store.old) (S.visit_count store.new))) }
+{
+    let Part { base, patches } = part;
+    let found = match base {
+        Base::Value(found) => found,
+        Base::Ask { child, key } => {
+            get(alloc, store, child, key.as_slice())?.map(Bytes::from_vec)
+        }
+    };
+    let value = finished(alloc, found, patches.as_slice())?;
+    Ok(Bytes::from_vec(value.unwrap_or(Vec::new(alloc))))
 }
 
 // A value after patches.
