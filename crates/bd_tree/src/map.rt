@@ -37,7 +37,7 @@ impl<S: NodeStore> KeyMap for Tree<S> {
         Tree::get(self, key)
     }
 
-    fn next(&mut self, from: &[u8], within: &[u8]) -> Result<Option<Vec<u8>>, MapFault> {
+    fn next(&mut self, from: &[u8], within: &[u8]) -> Result<Option<(Vec<u8>, Vec<u8>)>, MapFault> {
         Tree::next(self, from, within)
     }
 

@@ -4,14 +4,14 @@ ghost use Rattle.std.specs.Prelude.{◌≡◌, ◌≢◌, ◌↔◌, ℕ, ◌+�
 ghost use Rattle.std.specs.Borrow.{sem};
 ghost use Rattle.std.specs.Option.{option_map};
 ghost use Rattle.bd_limits.specs.Limits.{buffer_limit};
-ghost use Rattle.bd_message.specs.KeyMaps.{HasMapCause, NeverWorn, IsApplied, IsNext, CanGraft, IsGrafted};
+ghost use Rattle.bd_message.specs.KeyMaps.{HasMapCause, NeverWorn, IsApplied, IsNextEntry, CanGraft, IsGrafted};
 ghost use Rattle.bd_node.specs.Frames.{OfSound, OnlyReads, Stays};
 ghost use Rattle.bd_node.specs.Meaning.{at};
 ghost use Rattle.bd_node.specs.Tables.{IsKept, IsSound, root_at};
 ghost use Rattle.bd_node.specs.declared.node.Node.{Node};
 ghost use Rattle.bd_node.specs.Steps.{IsCommitted, HasGrown, append_step};
 ghost use Rattle.bd_node.specs.Stores.{FitsRoot, visited, AreVisits};
-ghost use Rattle.bd_query.specs.Asks.{AreVisitsOfWays};
+ghost use Rattle.bd_query.specs.Asks.{AreVisitsOfWay, AreVisitsOfWays};
 ghost use Rattle.bd_graft.specs.Grafting.{IsGrown, IsGraftStep, IsWalkOf, AreOthersSame, IsWornForGraft, IsWornByGraft, OnWorn};
 ghost use Rattle.bd_path.specs.Made.{AreKnown};
 ghost use Rattle.bd_reclaim.specs.Walking.{IsFirst, HasNone, IsToDo, IsToDoAt, walk_size};
@@ -84,7 +84,8 @@ impl<S: NodeStore> Tree<S> {
         &mut self.store
     }
 
-    /// What stands at a key, of any length. At most as many nodes are visited as the tree is high.
+    /// What stands at a key, of any length. The nodes that are visited are those that are asked on the
+    /// way down along the key, at most as many as the tree is high.
     pub fn get(&mut self, key: &[u8]) -> Result<Option<Vec<u8>>, MapFault>
         ensures value { OfSound S.NodeStore self.old.store
             (IfOk result (λ found. option_map (λ value. value.items) found
@@ -97,20 +98,28 @@ impl<S: NodeStore> Tree<S> {
             (S.visit_count self.old.store) (S.visit_count self.new.store)) }
         ensures few_visits { S.visit_count self.new.store ≤ S.visit_count self.old.store
             + ((S.table self.old.store).level (S.table self.old.store).root + 1) }
+        ensures way { OfSound S.NodeStore self.old.store
+            (OnOk result (AreVisitsOfWay (S.nodes self.old.store)
+            (S.table self.old.store).root key.now (S.visit_count self.old.store)
+            (S.visit_count self.new.store))) }
         ensures walk { self.new.walk ≡ self.old.walk }
     {
         let root = self.store.root();
         get(self.alloc, &mut self.store, root, key)
     }
 
-    /// The least key, of any length, that is at least `from`, begins with `within` and has a value.
-    /// The nodes that are visited are those that are asked on ways down along rising keys. A way
-    /// goes no further where a cut decides.
-    pub fn next(&mut self, from: &[u8], within: &[u8]) -> Result<Option<Vec<u8>>, MapFault>
+    /// The least key, of any length, that is at least `from`, begins with `within` and has a value,
+    /// and that value. The nodes that are visited are those that are asked on ways down along rising
+    /// keys. A way goes no further where a message gives or takes all of the value.
+    pub fn next(
+        &mut self,
+        from: &[u8],
+        within: &[u8],
+    ) -> Result<Option<(Vec<u8>, Vec<u8>)>, MapFault>
         ensures next { OfSound S.NodeStore self.old.store
-            (IfOk result (λ found. IsNext
+            (IfOk result (λ found. IsNextEntry
             (root_at (S.nodes self.old.store) (S.table self.old.store)) from.now within.now
-            (option_map (λ key. key.items) found))) }
+            (option_map (λ entry. (entry.0.items, entry.1.items)) found))) }
         ensures left { OnlyReads S.NodeStore self.old.store self.new.store }
         ensures cause { HasMapCause (S.fault_count self.old.store) (S.fault_count self.new.store)
             (S.bad self.new.store) NeverWorn result }
