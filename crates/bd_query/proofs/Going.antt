@@ -14,6 +14,7 @@ use Rattle.bd_query.specs.declared.part.Base.{Base}
 use Rattle.bd_query.specs.declared.part.Base.TheVariants.{Value, Ask}
 use Rattle.bd_query.specs.declared.part.Part.{Part}
 use Rattle.bd_query.specs.Looks.{patched, base_at, part_at, IsNamedIn, IsLowerBase}
+use Rattle.bd_query.specs.Asks.{asked_at, asked_of}
 use Rattle.bd_query.proofs.Parts.{patched-append}
 
 -- what a node asks is kept and of a lower level
@@ -27,6 +28,17 @@ lower_ask t level base child key e h = subst (λ (b : Base). IsLowerBase t level
 -- what a part says
 abbrev pub IsSaid : Nodes → ℕ → List ℕ → Part → Type 0
 IsSaid nodes id k part = (n : Node) → nodes id ≡ Some n → (below : NodesAt) → node_at below n k ≡ part_at below part
+
+-- whom it asks
+abbrev pub IsAsking : Nodes → ℕ → List ℕ → Base → Type 0
+IsAsking nodes id k base = (n : Node) → nodes id ≡ Some n → asked_at n k ≡ asked_of base
+
+-- it asks the same where the nodes, the key and the base are the same
+pub asking_same : (now nodes : Nodes) (id : ℕ) (slice k : List ℕ) (old new : Base) → now ≡ nodes → slice ≡ k → old ≡ new → IsAsking now id slice old → IsAsking nodes id k new
+asking_same now nodes id slice k old new same_nodes same_key same_base asking n there =
+    ap (λ (l : List ℕ). asked_at n l) (sym same_key)
+    ∙ asking n (ap (λ (f : Nodes). f id) same_nodes ∙ there)
+    ∙ ap (λ (b : Base). asked_of b) same_base
 
 -- one node further down
 pub going_on : (nodes : Nodes) (t : Table) (id : ℕ) (k : List ℕ) (part : Part) (base : Base) (own old : List Patch) (all : Option (List ℕ)) → IsSound nodes t → IsKept t id → IsKey k → IsSaid nodes id k part → own ≡ part.patches.items → part.base ≡ base

@@ -11,7 +11,7 @@ ghost use Rattle.bd_node.specs.Nodes.{node_at};
 ghost use Rattle.bd_node.specs.Meaning.{at};
 ghost use Rattle.bd_node.specs.Tables.{IsKept};
 ghost use Rattle.bd_node.specs.Stores.{visited, AreVisits};
-ghost use Rattle.bd_query.specs.Looks.{patched, part_at, IsLowerBase};
+ghost use Rattle.bd_query.specs.Looks.{patched, base_at, part_at, IsLowerBase};
 ghost use Rattle.bd_query.specs.Asks.{asked_at, asked_of, AreVisitsOfWay, AreVisitsOfRest, AreFewOfRest};
 ghost use Rattle.bd_query.specs.declared.part.Base.TheVariants as base;
 
@@ -111,14 +111,39 @@ pub fn value_of<S: NodeStore>(alloc: Global, store: &mut S, part: Part) -> Resul
         (S.visit_count store.old) (S.visit_count store.new))) }
 {
     let Part { base, patches } = part;
-    let found = match base {
-        Base::Value(found) => found,
-        Base::Ask { child, key } => {
-            get(alloc, store, child, key.as_slice())?.map(Bytes::from_vec)
-        }
-    };
+    let found = found_at(alloc, store, base)?;
     let value = finished(alloc, found, patches.as_slice())?;
     Ok(Bytes::from_vec(value.unwrap_or(Vec::new(alloc))))
+}
+
+// What stands before patches.
+fn found_at<S: NodeStore>(
+    alloc: Global,
+    store: &mut S,
+    first: Base,
+) -> Result<Option<Bytes>, MapFault>
+    requires { (child : ℕ) (key : List ℕ) → first ≡ base.Ask child key
+        → IsKept (S.table store.old) child }
+    ensures value { OfSound S.NodeStore store.old
+        (IfOk result (λ found. found ≡ base_at (at (S.nodes store.old)) first)) }
+    ensures left { OnlyReads S.NodeStore store.old store.new }
+    ensures cause { HasMapCause (S.fault_count store.old) (S.fault_count store.new)
+        (S.bad store.new) NeverWorn result }
+    ensures visits { OnOk result (AreFewOfRest (S.table store.old) (asked_of first)
+        (S.visit_count store.old) (S.visit_count store.new)) }
+    ensures few_visits { (level : ℕ) → IsLowerBase (S.table store.old) level first
+        → S.visit_count store.new ≤ S.visit_count store.old + level }
+    ensures way { OfSound S.NodeStore store.old
+        (OnOk result (AreVisitsOfRest (S.nodes store.old) (asked_of first)
+        (S.visit_count store.old) (S.visit_count store.new))) }
+{
+    match first {
+        Base::Value(found) => Ok(found),
+        Base::Ask { child, key } => {
+            let found = get(alloc, store, child, key.as_slice())?;
+            Ok(found.map(Bytes::from_vec))
+        }
+    }
 }
 
 // A value after patches.

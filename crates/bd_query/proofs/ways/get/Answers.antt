@@ -6,7 +6,9 @@ use Rattle.bd_node.specs.Tables.{Table, IsKept, IsLower}
 use Rattle.bd_query.specs.declared.patch.Patch.{Patch}
 use Rattle.bd_query.specs.declared.part.Base.TheVariants.{Value, Ask}
 use Rattle.bd_query.specs.Looks.{patched}
-use Rattle.bd_query.proofs.Going.{going_on, lower_ask, IsSaid}
+use Rattle.bd_query.specs.Asks.{AreVisitsOfWay}
+use Rattle.bd_query.proofs.Going.{going_on, lower_ask, IsSaid, IsAsking, asking_same}
+use Rattle.bd_query.proofs.AskLemmas.{way_ends, way_goes_on}
 use Rattle.bd_node.proofs.Visited.{no_visit, visits_one_more, visits_last, visits_at_most}
 use Rattle.bd_query.proofs.ways.get.Goals as goal
 
@@ -33,6 +35,7 @@ loop-patches-init g c = record {
   loans = refl;
   value = λ known sound. ap (λ (ps : List Patch). patched ps (at (g.S.NodeStore.nodes c.args.store.now) c.args.root c.in_ok-asked.asked)) c.new-patches.ensures.items
       ∙ ap (λ (k : List ℕ). at (g.S.NodeStore.nodes c.args.store.now) c.args.root k) c.in_ok-asked.ensures;
+  way = λ known sound final rest. subst (λ (k : List ℕ). AreVisitsOfWay (g.S.NodeStore.nodes c.args.store.now) c.args.root k (g.S.NodeStore.visit_count c.args.store.now) final) c.in_ok-asked.ensures rest;
 }
 
 pub loop-patches-preserved : goal.loop-patches-preserved
@@ -57,6 +60,11 @@ loop-patches-preserved g c =
           ap (λ (ps : List Patch). patched ps (at nodes c.in-Ask.child c.in-Ask.key)) c.in_ok-append.ensures.items
           ∙ going_on nodes (g.S.NodeStore.table c.args.store.now) c.loop-patches.id c.loop-patches.asked c.in_ok-part.part (Ask c.in-Ask.child c.in-Ask.key) c.in_ok-part.part.patches.items c.loop-patches.patches.items
           (at nodes c.args.root c.args.key.now) sound inv.here (subst (λ (k : List ℕ). IsKey k) c.as_slice.ensures c.in_ok-part.ensures.bytes) said refl c.in-Ask.is (inv.value known sound);
+      way = λ known sound final rest.
+          let asking : IsAsking nodes c.loop-patches.id c.loop-patches.asked (Ask c.in-Ask.child c.in-Ask.key) =
+          asking_same (g.S.NodeStore.nodes c.loop-patches.store) nodes c.loop-patches.id c.as_slice.result.now c.loop-patches.asked c.in_ok-part.part.base (Ask c.in-Ask.child c.in-Ask.key)
+          (inv.nodes known) c.as_slice.ensures c.in-Ask.is (c.in_ok-part.ensures.asks (inv.known known)) in
+          inv.way known sound final (way_goes_on nodes (g.S.NodeStore.table c.args.store.now) c.loop-patches.id c.in-Ask.child c.loop-patches.asked c.in-Ask.key (g.S.NodeStore.visit_count c.loop-patches.store) (g.S.NodeStore.visit_count c.fetched.new.store) final sound inv.here asking c.in_ok-part.ensures.visits rest);
     }
 
 pub returns-in_err-part-clause-few_visits : goal.returns-in_err-part-clause-few_visits
@@ -73,3 +81,13 @@ returns-in-Value-clause-few_visits g c = visits_at_most (g.S.NodeStore.visit_cou
 
 pub returns-in-Value-clause-visits : goal.returns-in-Value-clause-visits
 returns-in-Value-clause-visits g c = visits_last (g.S.NodeStore.visit_count c.args.store.now) (g.S.NodeStore.visit_count c.loop-patches.store) (g.S.NodeStore.visit_count c.fetched.new.store) ((g.S.NodeStore.table c.args.store.now).level c.args.root) ((g.S.NodeStore.table c.args.store.now).level c.loop-patches.id) c.loop-patches.invariant.visits c.fetched.ensures.visits
+
+pub returns-in-Value-clause-way : goal.returns-in-Value-clause-way
+returns-in-Value-clause-way g c = λ known sound.
+    let nodes : Nodes = g.S.NodeStore.nodes c.args.store.now in
+    let inv = c.loop-patches.invariant in
+    let asking : IsAsking nodes c.loop-patches.id c.loop-patches.asked (Value c.in-Value.found) =
+    asking_same (g.S.NodeStore.nodes c.loop-patches.store) nodes c.loop-patches.id c.as_slice.result.now c.loop-patches.asked c.in_ok-part.part.base (Value c.in-Value.found)
+    (inv.nodes known) c.as_slice.ensures c.in-Value.is (c.in_ok-part.ensures.asks (inv.known known)) in
+    inv.way known sound (g.S.NodeStore.visit_count c.fetched.new.store)
+    (way_ends nodes (g.S.NodeStore.table c.args.store.now) c.loop-patches.id c.loop-patches.asked (g.S.NodeStore.visit_count c.loop-patches.store) (g.S.NodeStore.visit_count c.fetched.new.store) sound inv.here asking c.in_ok-part.ensures.visits)
