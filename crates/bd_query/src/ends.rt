@@ -17,6 +17,9 @@ use std::alloc::{AllocError, Global};
 pub fn joined(alloc: Global, front: &[u8], rest: &[u8]) -> Result<Bytes, AllocError>
     ensures { IfOk result (λ made. made ≡ front.now ++ rest.now) }
 {
+    if front.is_empty() {
+        return Bytes::from_slice(alloc, rest);
+    }
     let mut made = Vec::from_slice(alloc, front)?;
     made.extend_from_slice(rest)?;
     Ok(Bytes::from_vec(made))
