@@ -1,13 +1,16 @@
 -- The key after a child's is that of the next child or of what is below it.
-use Rattle.std.proofs.Common.{◌≡◌, ℕ, ◌+◌, Bool, true, false, cond, List, [], ◌∷◌, ◌++◌, inl, inr, length, take, drop, refl, sym, ap, subst, ◌∙◌, arith, append_assoc, append-nil}
-use Rattle.std.specs.Prelude.{Option, Some, None, IsSome, IfSome, Result, Ok, Err, IfOk, not, ◌==◌}
+use Rattle.std.proofs.Common.{◌≡◌, ℕ, ◌+◌, Bool, true, false, cond, List, [], ◌∷◌, ◌++◌, inl, inr, Ordering, Less, Equal, Greater, length, take, drop, refl, sym, ap, subst, ◌∙◌, arith, append_assoc, append-nil}
+use Rattle.std.specs.Prelude.{Option, Some, None, IsSome, IfSome, not, ◌==◌, nat_eq}
 use Rattle.std.specs.Option.{option_map}
 use Rattle.std.specs.FinMap.{get}
 use Rattle.std.specs.List.{Contains, list_all, prefix_len}
+use Rattle.std.specs.Ordering.{ordering_reverse}
+use Rattle.std.specs.Cmp.Lexicographic.{pointwise}
 use Rattle.std.specs.Int.{w32}
 use Rattle.std.proofs.lemmas.List.{take-append-drop}
 use Rattle.std.proofs.Math.Seq.{take-append_seam, drop-append_seam}
 use Rattle.std.proofs.lemmas.Bool.{and_parts}
+use Rattle.std.proofs.lemmas.Cmp.{nat_list_cmp_total as total}
 use Rattle.bd_wire.specs.Numbers.{be}
 use Rattle.bd_keys.specs.Keys.{IsKey, IsBelow, IsAtLeast, key_cmp}
 use Rattle.bd_names.specs.Names.{is_name, is_name_byte, AreNames, key_of}
@@ -16,8 +19,8 @@ use Rattle.bd_command.specs.declared.reply.Listed.{Listed}
 use Rattle.bd_model.specs.Tree.{Entry, is_directory, has_directory, Tree, IsTree}
 use Rattle.bd_model.specs.Step.{file_bytes, children, those_after}
 use Rattle.bd_model.proofs.Listing.{names_each, names_only, names_rise}
-use Rattle.bd_message.specs.KeyMaps.{At, SameAt, IsFound, IsNext}
-use Rattle.bd_message.specs.declared.fault.MapFault.{MapFault}
+use Rattle.bd_message.specs.KeyMaps.{At, IsFound, IsNext, IsNextEntry}
+use Rattle.bd_message.proofs.Finds.{tied}
 use Rattle.bd_represent.specs.EntryKeys.{record_key, block_key, IsEntryKey}
 use Rattle.bd_represent.specs.Represents.{record_of, record_value, IsBlockOf, Represents}
 use Rattle.bd_represent.proofs.KeyLemmas.{key_of-under}
@@ -25,7 +28,7 @@ use Rattle.bd_records.specs.declared.Record.{Record}
 use Rattle.bd_records.specs.Records.{IsReadAs}
 use Rattle.bd_files.proofs.Records.{record-found}
 use Rattle.bd_dirs.specs.Listings.{first_of, lower, key_after}
-use Rattle.bd_dirs.proofs.ChildOrder.{child_key, name_from, from_name, names_as_keys, zero_below, above_nil}
+use Rattle.bd_dirs.proofs.ChildOrder.{child_key, name_from, from_name, names_as_keys, zero_below, above_nil, record_least}
 use Rattle.bd_dirs.proofs.Listings.{those-has, those-first, first-least}
 use Rattle.bd_keys.proofs.Order.{key_cmp-front}
 
@@ -65,19 +68,38 @@ of_path at t k rep key some = by (rep.only k key some)
     by (q, names, inl e) = (q, 0 ∷ [], names, e, some_entry (get t q) (subst IsSome (ap at e ∙ rep.records q names) some))
     by (q, names, inr (i, hi, e)) = (q, 1 ∷ be w32 i, names, e, has_file (get t q) (at (block_key q i)) i (subst IsSome (ap at e) some) ((rep.files q names).blocks i hi))
 
--- a key within a directory, after a child's, is of a child that comes after it
+-- the record of a child that comes after a name is found after its key
+child_there : (at : At) (t : Tree) (path : List (List ℕ)) (after : Option (List ℕ)) (n : List ℕ) (e : Entry) → IsTree t → Represents at t → is_name n ≡ true → IsBelow (lower after) n → get t (path ++ n ∷ []) ≡ Some e
+    → IsFound at (key_after path after) (key_of path) (key_of path ++ (n ++ 0 ∷ 0 ∷ 0 ∷ []))
+child_there at t path after n e tree rep named later has =
+    let names : AreNames (path ++ n ∷ []) = tree.names (path ++ n ∷ []) (subst IsSome (sym has) refl) in
+    let stored : IsSome (at (record_key (path ++ n ∷ []))) = subst IsSome (sym (rep.records (path ++ n ∷ []) names)) (some_map (get t (path ++ n ∷ [])) e has) in (
+      subst (λ (k : List ℕ). IsSome (at k)) (child_key path n (0 ∷ 0 ∷ [])) stored,
+      λ less. from_name (lower after) n (0 ∷ 0 ∷ 0 ∷ []) named later (sym (key_cmp-front (key_of path) (n ++ 0 ∷ 0 ∷ 0 ∷ []) (lower after ++ 1 ∷ [])) ∙ less),
+      take-append_seam (key_of path) (n ++ 0 ∷ 0 ∷ 0 ∷ []),
+    )
+
+-- two keys that are each at least the other are one
+one_least : (k l : List ℕ) → IsAtLeast k l → IsAtLeast l k → k ≡ l
+one_least k l from upto = by (key_cmp k l) refl
+  where
+    by : (o : Ordering) → key_cmp k l ≡ o → k ≡ l
+    by Less e = absurd (from e)
+    by Equal e = tied k l e
+    by Greater e = absurd (upto (total.antisymm l k ∙ ap ordering_reverse e))
+
+-- the least key within a directory, after a child's, is of the record of a child that comes after it
 pub record IsChildKey (t : Tree) (path : List (List ℕ)) (after : Option (List ℕ)) (k : List ℕ) : Type 0 where
   pub name : List ℕ
-  pub rest : List ℕ
   pub entry : Entry
-  pub is : k ≡ key_of path ++ (name ++ 0 ∷ rest)
+  pub is : k ≡ key_of path ++ (name ++ 0 ∷ 0 ∷ 0 ∷ [])
   pub named : is_name name ≡ true
   pub later : IsBelow (lower after) name
   pub has : get t (path ++ name ∷ []) ≡ Some entry
 
 pub child_found : (at : At) (t : Tree) (path : List (List ℕ)) (after : Option (List ℕ)) (k : List ℕ) → IsTree t → Represents at t → AreNames path → list_all is_name_byte (lower after) ≡ true → IsKey k
-    → IsFound at (key_after path after) (key_of path) k → IsChildKey t path after k
-child_found at t path after k tree rep names bytes key (some, from, begins) =
+    → IsNext at (key_after path after) (key_of path) (Some k) → IsChildKey t path after k
+child_found at t path after k tree rep names bytes key ((some, from, begins), least) =
     by under.0 under.1 under.2
   where
     place : (q : List (List ℕ)) × (x : List ℕ) × AreNames q × (k ≡ key_of q ++ 0 ∷ x) × IsSome (get t q)
@@ -99,28 +121,23 @@ child_found at t path after k tree rep names bytes key (some, from, begins) =
         let all : AreNames (path ++ n ∷ below) = subst (λ (q : List (List ℕ)). AreNames q) at_path place.2 in
         let named = (AreNames-cons n below (AreNames-parts path (n ∷ below) all).1).0 in
         let rest : drop (length (key_of path)) k ≡ n ++ 0 ∷ (key_of below ++ 0 ∷ place.1) = e ∙ ap (λ (l : List ℕ). l ++ 0 ∷ place.1) (key_of-cons n below) ∙ append_assoc n (0 ∷ key_of below) (0 ∷ place.1) in
-        let there : IsSome (get t ((path ++ n ∷ []) ++ below)) = subst (λ (q : List (List ℕ)). IsSome (get t q)) (at_path ∙ sym (append_assoc path (n ∷ []) below)) place.4 in
+        let later = name_from (lower after) n (key_of below ++ 0 ∷ place.1) bytes named (from_rest (n ++ 0 ∷ (key_of below ++ 0 ∷ place.1)) rest) in
+        let apart : place.0 ≡ (path ++ n ∷ []) ++ below = at_path ∙ sym (append_assoc path (n ∷ []) below) in
+        let parts = AreNames-parts (path ++ n ∷ []) below (subst (λ (q : List (List ℕ)). AreNames q) apart place.2) in
+        let there : IsSome (get t ((path ++ n ∷ []) ++ below)) = subst (λ (q : List (List ℕ)). IsSome (get t q)) apart place.4 in
         let entry = some_is (get t (path ++ n ∷ [])) (above t tree (path ++ n ∷ []) below there) in
+        let at_key : k ≡ key_of ((path ++ n ∷ []) ++ below) ++ 0 ∷ place.1 = place.3 ∙ ap (λ (q : List (List ℕ)). key_of q ++ 0 ∷ place.1) apart in
+        let first = record_least (path ++ n ∷ []) below place.1 parts.0 parts.1 (subst IsEntryKey at_key (rep.only k key some)) in
         record {
           name = n;
-          rest = key_of below ++ 0 ∷ place.1;
           entry = entry.0;
-          is = front ∙ ap (λ (r : List ℕ). key_of path ++ r) rest;
+          is = one_least k (key_of path ++ (n ++ 0 ∷ 0 ∷ 0 ∷ []))
+              (subst (λ (l : List ℕ). IsAtLeast k l) (child_key path n (0 ∷ 0 ∷ [])) (subst (λ (l : List ℕ). IsAtLeast l (record_key (path ++ n ∷ []))) (sym at_key) first))
+              (least (key_of path ++ (n ++ 0 ∷ 0 ∷ 0 ∷ [])) (child_there at t path after n entry.0 tree rep named later entry.1));
           named = named;
-          later = name_from (lower after) n (key_of below ++ 0 ∷ place.1) bytes named (from_rest (n ++ 0 ∷ (key_of below ++ 0 ∷ place.1)) rest);
+          later = later;
           has = entry.1;
         }
-
--- the record of a child that comes after a name is found after its key
-child_there : (at : At) (t : Tree) (path : List (List ℕ)) (after : Option (List ℕ)) (n : List ℕ) (e : Entry) → IsTree t → Represents at t → is_name n ≡ true → IsBelow (lower after) n → get t (path ++ n ∷ []) ≡ Some e
-    → IsFound at (key_after path after) (key_of path) (key_of path ++ (n ++ 0 ∷ 0 ∷ 0 ∷ []))
-child_there at t path after n e tree rep named later has =
-    let names : AreNames (path ++ n ∷ []) = tree.names (path ++ n ∷ []) (subst IsSome (sym has) refl) in
-    let stored : IsSome (at (record_key (path ++ n ∷ []))) = subst IsSome (sym (rep.records (path ++ n ∷ []) names)) (some_map (get t (path ++ n ∷ [])) e has) in (
-      subst (λ (k : List ℕ). IsSome (at k)) (child_key path n (0 ∷ 0 ∷ [])) stored,
-      λ less. from_name (lower after) n (0 ∷ 0 ∷ 0 ∷ []) named later (sym (key_cmp-front (key_of path) (n ++ 0 ∷ 0 ∷ 0 ∷ []) (lower after ++ 1 ∷ [])) ∙ less),
-      take-append_seam (key_of path) (n ++ 0 ∷ 0 ∷ 0 ∷ []),
-    )
 
 -- a listed name that comes after another
 record IsListed (t : Tree) (path : List (List ℕ)) (after : Option (List ℕ)) (l : Listed) : Type 0 where
@@ -147,7 +164,7 @@ none_listed at t path after tree rep none = by (those_after after (children path
         let listed = listed_first t path after l rest tree is in
         absurd (none (key_of path ++ (l.name ++ 0 ∷ 0 ∷ 0 ∷ [])) (child_there at t path after l.name listed.entry tree rep listed.named listed.later listed.has))
 
--- the least key found is that of the first child that comes after
+-- the child of the least key is the first that comes after
 pub next_listed : (at : At) (t : Tree) (path : List (List ℕ)) (after : Option (List ℕ)) (k : List ℕ) → IsTree t → Represents at t → IsNext at (key_after path after) (key_of path) (Some k)
     → (child : IsChildKey t path after k) → first_of (those_after after (children path t)) ≡ Some (record { name = child.name; is_dir = is_directory child.entry })
 next_listed at t path after k tree rep next child = by (those_after after (children path t)) refl (those-has after (children path t) l (names_each t path child.name child.entry child.has) child.later)
@@ -161,15 +178,15 @@ next_listed at t path after k tree rep next child = by (those_after after (child
         let listed = listed_first t path after x rest tree is in
         let least = next.1 (key_of path ++ (x.name ++ 0 ∷ 0 ∷ 0 ∷ [])) (child_there at t path after x.name listed.entry tree rep listed.named listed.later listed.has) in
         ap Some (first-least after (children path t) l x rest (names_rise t path) is at_list
-        (λ less. names_as_keys x.name child.name (0 ∷ 0 ∷ []) (0 ∷ child.rest) child.named
-        (λ below. least (ap (key_cmp (key_of path ++ (x.name ++ 0 ∷ 0 ∷ 0 ∷ []))) child.is ∙ key_cmp-front (key_of path) (x.name ++ 0 ∷ 0 ∷ 0 ∷ []) (child.name ++ 0 ∷ child.rest) ∙ below)) less))
+        (λ less. names_as_keys x.name child.name (0 ∷ 0 ∷ []) (0 ∷ 0 ∷ 0 ∷ []) child.named
+        (λ below. least (ap (key_cmp (key_of path ++ (x.name ++ 0 ∷ 0 ∷ 0 ∷ []))) child.is ∙ key_cmp-front (key_of path) (x.name ++ 0 ∷ 0 ∷ 0 ∷ []) (child.name ++ 0 ∷ 0 ∷ 0 ∷ []) ∙ below)) less))
 
--- the least key, where the key from which and what it begins with are told otherwise
-pub next_along : (at : At) (from from' within within' : List ℕ) (o o' : Option (List ℕ)) → from ≡ from' → within ≡ within' → o ≡ o' → IsNext at from within o → IsNext at from' within' o'
+-- the least entry, where the key from which and what it begins with are told otherwise
+pub next_along : (at : At) (from from' within within' : List ℕ) (o o' : Option (List ℕ × List ℕ)) → from ≡ from' → within ≡ within' → o ≡ o' → IsNextEntry at from within o → IsNextEntry at from' within' o'
 next_along at from from' within within' o o' e f g next =
-    subst (λ (x : Option (List ℕ)). IsNext at from' within' x) g
-    (subst (λ (w : List ℕ). IsNext at from' w o) f
-    (subst (λ (k : List ℕ). IsNext at k within o) e next))
+    subst (λ (x : Option (List ℕ × List ℕ)). IsNextEntry at from' within' x) g
+    (subst (λ (w : List ℕ). IsNextEntry at from' w o) f
+    (subst (λ (k : List ℕ). IsNextEntry at k within o) e next))
 
 -- the text before the first zero byte
 zero_free : (n rest : List ℕ) → list_all (λ b. not (b == 0)) n ≡ true → prefix_len (λ b. not (b == 0)) (n ++ 0 ∷ rest) ≡ length n
@@ -185,42 +202,27 @@ first_name_is n rest text len named is e =
     let long : len ≡ length n = e ∙ ap (prefix_len (λ b. not (b == 0))) is ∙ zero_free n rest (is_name-zero n named) in
     ap (λ (i : ℕ). take i text) long ∙ ap (take (length n)) is ∙ take-append_seam n (0 ∷ rest)
 
--- the least key of a map that has the same
-pub next_same : (old new : At) (from within k : List ℕ) → SameAt old new → IsNext old from within (Some k) → IsNext new from within (Some k)
-next_same old new from within k same next =
-    let found = next.0 in
-    ((subst IsSome (sym (same k)) found.0, found.1, found.2), λ l is. next.1 l (subst IsSome (same l) is.0, is.1, is.2))
+-- the record that is read of what stands at its key is that of the child
+child_record : (at : At) (t : Tree) (path : List (List ℕ)) (n k value : List ℕ) (e : Entry) → IsTree t → Represents at t → get t (path ++ n ∷ []) ≡ Some e → k ≡ key_of path ++ (n ++ 0 ∷ 0 ∷ 0 ∷ []) → at k ≡ Some value
+    → (read : Option Record) → IsReadAs value read → read ≡ Some (record_of e)
+child_record at t path n k value e tree rep has key stored read reads =
+    record-found at t (path ++ n ∷ []) value read (tree.names (path ++ n ∷ []) (subst IsSome (sym has) refl)) tree rep (sym stored ∙ ap at (key ∙ sym (child_key path n (0 ∷ 0 ∷ [])))) reads ∙ ap (option_map record_of) has
 
--- what is listed of the key that was found
-pub child_listed : (at : At) (t : Tree) (path : List (List ℕ)) (after : Option (List ℕ)) (k within : List ℕ) (found : Option (List ℕ)) → IsTree t → Represents at t → AreNames path → list_all is_name_byte (lower after) ≡ true → IsKey k
-    → IsNext at (key_after path after) (key_of path) (Some k) → within ≡ key_of path
-    → ((name rest : List ℕ) → is_name name ≡ true → drop (length within) k ≡ name ++ 0 ∷ rest → found ≡ Some name)
-    → (name : List ℕ) × (e : Entry) × (found ≡ Some name) × (get t (path ++ name ∷ []) ≡ Some e) × (first_of (those_after after (children path t)) ≡ Some (record { name = name; is_dir = is_directory e }))
-child_listed at t path after k within found tree rep names bytes key next is reads =
-    let child = child_found at t path after k tree rep names bytes key next.0 in
-    let rest : drop (length within) k ≡ child.name ++ 0 ∷ child.rest = ap (λ (w : List ℕ). drop (length w) k) is ∙ ap (drop (length (key_of path))) child.is ∙ drop-append_seam (key_of path) (child.name ++ 0 ∷ child.rest) in
-    (child.name, child.entry, reads child.name child.rest child.named rest, child.has, next_listed at t path after k tree rep next child)
+-- the child whose record is the least entry found, by the bytes after the directory's key
+pub child_listed : (at : At) (t : Tree) (path : List (List ℕ)) (after : Option (List ℕ)) (k value within : List ℕ) → IsTree t → Represents at t → AreNames path → list_all is_name_byte (lower after) ≡ true → IsKey k → within ≡ key_of path
+    → IsNextEntry at (key_after path after) (key_of path) (Some (k, value))
+    → (name : List ℕ) × (e : Entry) × (is_name name ≡ true) × (drop (length within) k ≡ name ++ 0 ∷ 0 ∷ 0 ∷ []) × ((read : Option Record) → IsReadAs value read → read ≡ Some (record_of e))
+    × (first_of (those_after after (children path t)) ≡ Some (record { name = name; is_dir = is_directory e }))
+child_listed at t path after k value within tree rep names bytes key is (next, stored) =
+    let child = child_found at t path after k tree rep names bytes key next in
+    let text : drop (length within) k ≡ child.name ++ 0 ∷ 0 ∷ 0 ∷ [] = ap (λ (w : List ℕ). drop (length w) k) is ∙ ap (drop (length (key_of path))) child.is ∙ drop-append_seam (key_of path) (child.name ++ 0 ∷ 0 ∷ 0 ∷ []) in
+    (child.name, child.entry, child.named, text, child_record at t path child.name k value child.entry tree rep child.has child.is stored, next_listed at t path after k tree rep next child)
 
--- the key at which the record of a child is asked for
-pub listed_key : (path : List (List ℕ)) (n within a b k bytes : List ℕ) → within ≡ key_of path → a ≡ within → bytes ≡ n → b ≡ a ++ bytes → k ≡ b ++ 0 ∷ 0 ∷ 0 ∷ [] → k ≡ record_key (path ++ n ∷ [])
-listed_key path n within a b k bytes e f g h i =
-    let front : b ≡ key_of path ++ n = h ∙ ap (λ (x : List ℕ). x ++ bytes) (f ∙ e) ∙ ap (λ (x : List ℕ). key_of path ++ x) g in
-    i ∙ ap (λ (x : List ℕ). x ++ 0 ∷ 0 ∷ 0 ∷ []) front ∙ append_assoc (key_of path) n (0 ∷ 0 ∷ 0 ∷ []) ∙ sym (child_key path n (0 ∷ 0 ∷ []))
-
--- the record that is read there is that of the child
-pub child_record : (at : At) (t : Tree) (path : List (List ℕ)) (n k value : List ℕ) (read : Option Record) (e : Entry) → IsTree t → Represents at t → get t (path ++ n ∷ []) ≡ Some e
-    → k ≡ record_key (path ++ n ∷ []) → Some value ≡ at k → IsReadAs value read → read ≡ Some (record_of e)
-child_record at t path n k value read e tree rep has key stored reads =
-    record-found at t (path ++ n ∷ []) value read (tree.names (path ++ n ∷ []) (subst IsSome (sym has) refl)) tree rep (stored ∙ ap at key) reads ∙ ap (option_map record_of) has
-
--- the child that is listed, by its name as it was read
-pub named_as : (t : Tree) (path : List (List ℕ)) (found : Option (List ℕ)) (n m : List ℕ) → found ≡ Some n → found ≡ Some m → m ≡ n
-named_as t path found n m e f = cc
-
--- what is the first child of some is one
-pub some_listed : (r : Result (Option Listed) MapFault) (o : Option Listed) (l : Listed) → o ≡ Some l → IfOk r (λ child. child ≡ o) → IfOk r (λ child. IsSome child × (child ≡ o))
-some_listed (Ok child) o l is same = (subst IsSome (sym (same ∙ is)) refl, same)
-some_listed (Err fault) o l is same = same
+-- what follows the child's name there is what was looked for
+pub is_end : (name text found rest end : List ℕ) → text ≡ name ++ 0 ∷ 0 ∷ 0 ∷ [] → found ≡ name → rest ≡ drop (length found) text → end ≡ 0 ∷ 0 ∷ 0 ∷ [] → pointwise nat_eq rest end ≡ true
+is_end name text found rest end is same after zeros =
+    let left : rest ≡ 0 ∷ 0 ∷ 0 ∷ [] = after ∙ ap (λ (n : List ℕ). drop (length n) text) same ∙ ap (drop (length name)) is ∙ drop-append_seam name (0 ∷ 0 ∷ 0 ∷ []) in
+    ap (λ (l : List ℕ). pointwise nat_eq l end) left ∙ ap (pointwise nat_eq (0 ∷ 0 ∷ 0 ∷ [])) zeros
 
 -- what is there isn't none
 pub none_there : (found : Option Listed) → IsSome found → found ≡ None → ⊥

@@ -3,7 +3,6 @@
 ghost use Rattle.std.specs.Prelude.{◌≡◌, ◌≤◌, ◌+◌, ℕ, List, [], ◌∷◌, ◌++◌, length, take, Option, Some, None, not, ◌==◌, nat_lt, true, IsTrue, IsSome, IfOk, IfErr};
 ghost use Rattle.std.specs.List.{prefix_len, list_all};
 ghost use Rattle.std.specs.Option.{option_copied};
-ghost use Rattle.std.specs.FinMap.{get};
 ghost use Rattle.bd_limits.specs.Limits.{listing_limit};
 ghost use Rattle.bd_names.specs.Names.{is_name, is_name_byte, AreNames, key_of};
 ghost use Rattle.bd_command.specs.Command.{IsReply};
@@ -12,7 +11,7 @@ ghost use Rattle.bd_command.specs.declared.reply.Listed.{Listed};
 ghost use Rattle.bd_model.specs.Tree.{Entry, Tree, IsTree, is_directory};
 ghost use Rattle.bd_model.specs.Step.{step, children, those_after, listing_of};
 ghost use Rattle.bd_message.specs.declared.fault.MapFault.TheVariants as fault;
-ghost use Rattle.bd_message.specs.KeyMaps.{IsNext, HasMapCause, NeverWorn};
+ghost use Rattle.bd_message.specs.KeyMaps.{At, IsNextEntry, HasMapCause, NeverWorn};
 ghost use Rattle.bd_message.specs.Reads.{IsLeft};
 ghost use Rattle.bd_represent.specs.Represents.{Represents, record_of};
 ghost use Rattle.bd_dirs.specs.Listings.{first_of, lower, key_after, IsLook};
@@ -30,6 +29,9 @@ use std::alloc::{AllocError, Global};
 // before it is taken to end there.
 const MAX_PASSED: u32 = 65_536;
 
+// What follows a name in the key of its record.
+const RECORD_END: [u8; 3] = [0, 0, 0];
+
 // What a look finds in a directory.
 #[derive(Drop)]
 enum Look {
@@ -43,8 +45,9 @@ enum Look {
 
 /// The names of what stands in the directory at a path, at most 100 of them, in the order of their
 /// bytes: those greater than `after`, if it is given. They come with whether more follow. In a map
-/// that no tree is represented by, entries that are none of a tree's (a name that is none, or that
-/// has no record) are passed over, at most 65,536 of them one after the other.
+/// that no tree is represented by, entries that are none of a tree's (a name that is none, or whose
+/// first key and its value aren't those of a record) are passed over, at most 65,536 of them one
+/// after the other.
 pub fn list<M: KeyMap>(
     alloc: Global,
     m: &mut M,
@@ -166,10 +169,10 @@ fn looked_at<M: KeyMap>(
     ensures cause { HasMapCause (M.fault_count m.old) (M.fault_count m.new)
         (M.bad m.new) NeverWorn result }
 {
-    let Some(key) = m.next(from, within)? else {
+    let Some((key, value)) = m.next(from, within)? else {
         return Ok(Look::End);
     };
-    match child_at(alloc, m, within, &key)? {
+    match child_at(alloc, within, &key, &value)? {
         Some(child) => Ok(Look::Child(child)),
         None => Ok(Look::Past(key_past(alloc, within, &key)?)),
     }
@@ -199,51 +202,29 @@ fn key_after(alloc: Global, within: &[u8], after: Option<&Name>) -> Result<Vec<u
     Ok(key)
 }
 
-/// The child whose key, or that of something below it, was found.
-fn child_at<M: KeyMap>(
+/// The child whose record was found, by its key and value.
+fn child_at(
     alloc: Global,
-    m: &mut M,
     within: &[u8],
     key: &[u8],
+    value: &[u8],
 ) -> Result<Option<Listed>, MapFault>
-    ensures child { M.is_known m.old → (t : Tree) → IsTree t → Represents (M.has m.old) t
+    ensures child { (at : At) (t : Tree) → IsTree t → Represents at t
         → (path : List (List ℕ)) (after : Option (List ℕ)) → AreNames path
         → IsTrue (list_all is_name_byte (lower after)) → within.now ≡ key_of path
-        → IsNext (M.has m.old) (key_after path after) (key_of path) (Some key.now)
+        → IsNextEntry at (key_after path after) (key_of path) (Some (key.now, value.now))
         → IfOk result (λ child. IsSome child
         × (child ≡ first_of (those_after after (children path t)))) }
-    ensures left { IsLeft M.KeyMap m.old m.new }
-    ensures cause { HasMapCause (M.fault_count m.old) (M.fault_count m.new)
-        (M.bad m.new) NeverWorn result }
+    ensures fault { IfErr result (λ cause. cause ≡ fault.NoMemory) }
 {
-    match first_name(alloc, tail(key, within.len()))? {
-        None => Ok(None),
-        Some(name) => listed(alloc, m, within, name),
+    let text = tail(key, within.len());
+    let Some(name) = first_name(alloc, text)? else {
+        return Ok(None);
+    };
+    if tail(text, name.as_bytes().len()) != RECORD_END.as_slice() {
+        return Ok(None);
     }
-}
-
-/// What is at a name in a directory.
-fn listed<M: KeyMap>(
-    alloc: Global,
-    m: &mut M,
-    within: &[u8],
-    name: Name,
-) -> Result<Option<Listed>, MapFault>
-    ensures child { M.is_known m.old → (t : Tree) → IsTree t → Represents (M.has m.old) t
-        → (path : List (List ℕ)) (e : Entry) → within.now ≡ key_of path
-        → get t (path ++ name ∷ []) ≡ Some e → IfOk result (λ child.
-        child ≡ Some (record { name = name; is_dir = is_directory e })) }
-    ensures left { IsLeft M.KeyMap m.old m.new }
-    ensures cause { HasMapCause (M.fault_count m.old) (M.fault_count m.new)
-        (M.bad m.new) NeverWorn result }
-{
-    let mut key = Vec::from_slice(alloc, within)?;
-    key.extend_from_slice(name.as_bytes())?;
-    key.extend_from_slice(&[0, 0, 0])?;
-    match m.get(&key)? {
-        None => Ok(None),
-        Some(value) => Ok(listed_as(name, read_record(&value))),
-    }
+    Ok(listed_as(name, read_record(value)))
 }
 
 /// A name and whether its record is a directory's.

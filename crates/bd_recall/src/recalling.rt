@@ -43,7 +43,7 @@ impl<M: KeyMap> KeyMap for Recalling<M> {
         Ok(value)
     }
 
-    fn next(&mut self, from: &[u8], within: &[u8]) -> Result<Option<Vec<u8>>, MapFault> {
+    fn next(&mut self, from: &[u8], within: &[u8]) -> Result<Option<(Vec<u8>, Vec<u8>)>, MapFault> {
         self.map.next(from, within)
     }
 

@@ -10,6 +10,16 @@ use rows_tools::{apply, graft, message};
 use std::alloc::{AllocError, Global};
 use std::test::Fail;
 
+// A key, a space and the value.
+fn joined(found: Option<(Vec<u8>, Vec<u8>)>) -> Result<Option<Vec<u8>>, AllocError> {
+    let Some((mut text, value)) = found else {
+        return Ok(None);
+    };
+    text.push(b' ')?;
+    text.extend_from_slice(value.as_slice())?;
+    Ok(Some(text))
+}
+
 // What a call gives, written as a word and its two arguments.
 fn called<M: KeyMap>(alloc: Global, map: &mut M, call: &str) -> Result<Option<Vec<u8>>, Fail> {
     let mut words = call.split(' ');
@@ -18,7 +28,7 @@ fn called<M: KeyMap>(alloc: Global, map: &mut M, call: &str) -> Result<Option<Ve
     let second = words.next().unwrap_or("");
     match name {
         "get" => return Ok(map.get(first.as_bytes())?),
-        "next" => return Ok(map.next(first.as_bytes(), second.as_bytes())?),
+        "next" => return Ok(joined(map.next(first.as_bytes(), second.as_bytes())?)?),
         "copy" => graft(map, first.as_bytes(), second.as_bytes(), true)?,
         "move" => graft(map, first.as_bytes(), second.as_bytes(), false)?,
         _ => apply(map, message(alloc, name, first, second)?)?,
@@ -26,10 +36,11 @@ fn called<M: KeyMap>(alloc: Global, map: &mut M, call: &str) -> Result<Option<Ve
     Ok(None)
 }
 
-/// Calls of one key map, and what `get` and `next` give.
-const CALLS: [(&str, Option<&str>); 20] = [
+/// Calls of one key map, and what `get` and `next` give: a value, and a key with its value.
+const CALLS: [(&str, Option<&str>); 21] = [
     ("patch p xy", None),
     ("get p", Some("\0\0\0xy")),
+    ("next p ", Some("p \0\0\0xy")),
     ("put sa 1", None),
     ("put sb 1", None),
     ("put sc 1", None),
@@ -38,9 +49,9 @@ const CALLS: [(&str, Option<&str>); 20] = [
     ("cut s b", None),
     ("get sa", Some("1")),
     ("get sb", None),
-    ("next sa s", Some("sa")),
+    ("next sa s", Some("sa 1")),
     ("next sb s", None),
-    ("next sb ", Some("t0")),
+    ("next sb ", Some("t0 1")),
     // A copy below what is copied has the old contents.
     ("copy s sa/", None),
     ("get sa/a", Some("1")),
@@ -49,7 +60,7 @@ const CALLS: [(&str, Option<&str>); 20] = [
     ("get ua/a", Some("1")),
     ("next a s", None),
     ("del ua", None),
-    ("next u ", Some("ua/a")),
+    ("next u ", Some("ua/a 1")),
 ];
 
 #[test]

@@ -197,7 +197,11 @@ fn clones_of_all_keys_end_in_a_worn_level(rt: HostRuntime) -> Result<(), Fail> {
     }
     let first = deep_key(rt.alloc(), 999)?;
     let found = both.tree.next(&first, b"s")?;
-    assert!(rt; found.is_some_and(|found| found.as_slice() == first.as_slice()));
+    assert!(rt;
+        found.is_some_and(|(key, value)| {
+            key.as_slice() == first.as_slice() && value.as_slice() == b"1".as_slice()
+        })
+    );
     graft(&mut both.tree, b"a", b"q", true)?;
     assert!(rt; both.tree.get(b"q")?.is_some());
     assert_eq!(rt; both.tree.height(), 1_001);

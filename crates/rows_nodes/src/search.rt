@@ -3,11 +3,11 @@
 
 use crate::nodes::{KEYS, clone_both, generated};
 use bd_message::KeyMap;
-use rows_tools::{Both, Numbers, message};
+use rows_tools::{Both, Numbers, flush, message};
 use std::alloc::Global;
 use std::test::Fail;
 
-/// Whether both find the same key from one on that begins with a prefix.
+/// Whether both find the same key from one on that begins with a prefix, and the same value.
 fn is_same_next(both: &mut Both, from: &str, within: &str) -> Result<bool, Fail> {
     let found = both.tree.next(from.as_bytes(), within.as_bytes())?;
     let want = both.map.next(from.as_bytes(), within.as_bytes())?;
@@ -34,10 +34,18 @@ fn is_same_from(both: &mut Both, key: &str, prefixes: &[&str]) -> Result<bool, F
     Ok(true)
 }
 
-/// Whether this is the key that the tree finds.
-fn finds(both: &mut Both, from: &str, within: &str, want: Option<&str>) -> Result<bool, Fail> {
+/// Whether these are the key that the tree finds and its value.
+fn finds(
+    both: &mut Both,
+    from: &str,
+    within: &str,
+    want: Option<(&str, &str)>,
+) -> Result<bool, Fail> {
     let found = both.tree.next(from.as_bytes(), within.as_bytes())?;
-    Ok(found.as_ref().map(|key| key.as_slice()) == want.map(|key| key.as_bytes()))
+    let found = found
+        .as_ref()
+        .map(|(key, value)| (key.as_slice(), value.as_slice()));
+    Ok(found == want.map(|(key, value)| (key.as_bytes(), value.as_bytes())))
 }
 
 #[test]
@@ -56,14 +64,14 @@ fn searches_after_generated_messages(rt: HostRuntime) -> Result<(), Fail> {
     Ok(())
 }
 
-/// From where on, within which prefix, and the least such key of a tree that has `a/f`, and a clone
-/// of `a` at `c`: the key itself, one under the clone, and none.
-const CLONED: &[(&str, &str, Option<&str>)] = &[
-    ("", "", Some("a/f")),
-    ("a/f", "", Some("a/f")),
-    ("a/f0", "", Some("c/f")),
-    ("", "c/", Some("c/f")),
-    ("c/f", "c/f", Some("c/f")),
+/// From where on, within which prefix, and the least such key with its value, of a tree that has
+/// `1` at `a/f`, and a clone of `a` at `c`: the key itself, one under the clone, and none.
+const CLONED: &[(&str, &str, Option<(&str, &str)>)] = &[
+    ("", "", Some(("a/f", "1"))),
+    ("a/f", "", Some(("a/f", "1"))),
+    ("a/f0", "", Some(("c/f", "1"))),
+    ("", "c/", Some(("c/f", "1"))),
+    ("c/f", "c/f", Some(("c/f", "1"))),
     ("c/f0", "", None),
     ("", "c/g", None),
     ("d", "a", None),
@@ -101,5 +109,17 @@ fn searches_under_a_clone(rt: HostRuntime) -> Result<(), Fail> {
         both.apply(message(rt.alloc(), name, first, second)?)?;
         assert!(rt; is_same_search(&mut both, FROM, WITHIN)?, "{name} {first}");
     }
+    Ok(())
+}
+
+// The put stands in a leaf, and the patch, from offset 3 on, waits in the root above it.
+#[test]
+fn finds_what_a_waiting_patch_makes_of_a_put(rt: HostRuntime) -> Result<(), Fail> {
+    let mut both = Both::new(rt.alloc())?;
+    both.apply(message(rt.alloc(), "put", "a/f", "1")?)?;
+    flush(&mut both.tree, 0)?;
+    both.apply(message(rt.alloc(), "patch", "a/f", "x")?)?;
+    assert!(rt; finds(&mut both, "", "", Some(("a/f", "1\0\0x")))?);
+    assert!(rt; is_same_next(&mut both, "", "")?);
     Ok(())
 }

@@ -78,7 +78,7 @@ pub fn same_keys<A: KeyMap, B: KeyMap>(
         if found != want {
             return Ok(None);
         }
-        let Some(key) = found else {
+        let Some((key, _value)) = found else {
             return Ok(Some(count));
         };
         at = key;
