@@ -45,9 +45,8 @@ enum Look {
 
 /// The names of what stands in the directory at a path, at most 100 of them, in the order of their
 /// bytes: those greater than `after`, if it is given. They come with whether more follow. In a map
-/// that no tree is represented by, entries that are none of a tree's (a name that is none, or whose
-/// first key and its value aren't those of a record) are passed over, at most 65,536 of them one
-/// after the other.
+/// that no tree is represented by, entries that are none of a tree's (a name that is none, or that
+/// has no record) are passed over, at most 65,536 of them one after the other.
 pub fn list<M: KeyMap>(
     alloc: Global,
     m: &mut M,
@@ -178,12 +177,18 @@ fn looked_at<M: KeyMap>(
     }
 }
 
-/// The key after all those of the name that a key has, or would have, in a directory.
+/// The key from which a search goes on past an entry that is none of a tree's: that of the record of
+/// its name, where the entry stands before that, and else the key after all those of the name.
 fn key_past(alloc: Global, within: &[u8], key: &[u8]) -> Result<Vec<u8>, AllocError> {
     let text = tail(key, within.len());
+    let len = len_before_zero(text);
     let mut past = Vec::from_slice(alloc, within)?;
-    past.extend_from_slice(&text[..len_before_zero(text)])?;
-    past.push(1)?;
+    past.extend_from_slice(&text[..len])?;
+    if text[len..].cmp(RECORD_END.as_slice()).is_lt() {
+        past.extend_from_slice(RECORD_END.as_slice())?;
+    } else {
+        past.push(1)?;
+    }
     Ok(past)
 }
 

@@ -79,13 +79,17 @@ const ROWS: &[Row] = &[
             (b"c\0\0\0", &[0x44]),
             (b"d\0\0\0\0", &[0x44]),
             (b"e\x01\0\0", &[0x44]),
+            (b"f\0", &[0x44]),
+            (b"f\0\0", &[0x44]),
+            (b"f\0\0\0", &[0x44]),
             (b"\xff\xff", &[0x44]),
         ],
         lines: &[
             ("stat /e", "no 1 not-found"),
             ("stat /c", "ok dir 0000"),
+            ("stat /f", "ok dir 0000"),
             ("list /c", "ok"),
-            ("list /", "ok c/"),
+            ("list /", "ok c/ f/"),
         ],
     },
     Row {

@@ -64,7 +64,7 @@ impl Both {
             if found != want {
                 return Ok(None);
             }
-            let Some(key) = found else {
+            let Some((key, _value)) = found else {
                 return Ok(Some(count));
             };
             at = key;
