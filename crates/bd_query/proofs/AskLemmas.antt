@@ -9,12 +9,15 @@ use Rattle.std.proofs.Common.{get_or}
 use Rattle.bd_message.specs.declared.message.Message.{Message}
 use Rattle.bd_node.specs.declared.node.Node.{Node}
 use Rattle.bd_node.specs.Meaning.{Nodes}
-use Rattle.bd_node.specs.Stores.{visited}
+use Rattle.bd_node.specs.Stores.{visited, AreVisits}
 use Rattle.bd_node.specs.Tables.{Table, IsKept, IsStored, IsSound}
 use Rattle.bd_node.specs.Touching.{touches, NoneTouches}
-use Rattle.bd_query.specs.Asks.{Question, asked_by, asked_after, asked_at, ends_here, goes_down, IsAfterLast, none_yet, one_more, AreVisitsOfWay, AreVisitsOfWays}
+use Rattle.bd_query.specs.Asks.{Question, asked_by, asked_after, asked_at, asked_of, ends_here, goes_down, IsAfterLast, none_yet, one_more, AreVisitsOfWay, AreVisitsOfRest, AreFewOfRest, AreVisitsOfWays}
 use Rattle.bd_query.specs.Stretches.{IsNewest}
-use Rattle.bd_node.proofs.Visited.{visited_more}
+use Rattle.bd_query.specs.Looks.{IsLowerBase}
+use Rattle.bd_query.specs.declared.part.Base.{Base}
+use Rattle.bd_query.specs.declared.part.Base.TheVariants.{Value, Ask}
+use Rattle.bd_node.proofs.Visited.{visited_more, visits_then}
 use Rattle.bd_query.proofs.StretchLemmas.{newest_there}
 
 -- ---- whom messages ask
@@ -80,6 +83,17 @@ way_goes_on nodes t id child key asked before now after sound kept asks one way 
       way = goes_down id key stored.node child asked way.number stored.there (asks stored.node stored.there) way.way;
       counted = way.counted ∙ ap (λ (n : ℕ). visited n way.number) one ∙ visited_more before 1 way.number;
     }
+
+-- a visit, and those of the way that is left
+pub way_with_rest : (nodes : Nodes) (t : Table) (id : ℕ) (key : List ℕ) (asked : Option Question) (before now after : ℕ) → IsSound nodes t → IsKept t id → ((n : Node) → nodes id ≡ Some n → asked_at n key ≡ asked) → now ≡ visited before 1
+    → AreVisitsOfRest nodes asked now after → AreVisitsOfWay nodes id key before after
+way_with_rest nodes t id key None before now after sound kept asks one rest = way_ends nodes t id key before after sound kept asks (rest ∙ one)
+way_with_rest nodes t id key (Some asked) before now after sound kept asks one rest = way_goes_on nodes t id asked.0 key asked.1 before now after sound kept asks one rest
+
+-- which are at most as many as there are levels
+pub few_with_rest : (t : Table) (level : ℕ) (base : Base) (before now after : ℕ) → IsLowerBase t level base → now ≡ visited before 1 → AreFewOfRest t (asked_of base) now after → AreVisits 1 (level + 1) before after
+few_with_rest t level (Value found) before now after lower one rest = record { number = 1; some = (omega arith); few = (omega arith); counted = rest ∙ one }
+few_with_rest t level (Ask child key) before now after lower one rest = visits_then before now after (t.level child) level one lower.lower rest
 
 -- ---- searches
 

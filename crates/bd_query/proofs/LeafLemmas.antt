@@ -1,10 +1,10 @@
 -- The keys between two entries of a leaf.
-use Rattle.std.proofs.Common.{◌≡◌, ℕ, zero, suc, ◌≤◌, List, [], ◌∷◌, length, refl, sym, ap, subst, ◌∙◌, Option, None, Some, Err, arith, inl, inr}
-use Rattle.std.specs.Prelude.{IsSome, slice_get}
+use Rattle.std.proofs.Common.{◌≡◌, ℕ, zero, suc, ◌≤◌, List, [], ◌∷◌, length, refl, sym, ap, subst, ◌∙◌, Option, None, Some, Ok, Err, arith, inl, inr, get_or}
+use Rattle.std.specs.Prelude.{slice_get}
 use Rattle.std.specs.List.{AllByRecursion}
 use Rattle.std.specs.Option.{option_map}
 use Rattle.std.proofs.lemmas.Bool.{cases_lt}
-use Rattle.std.proofs.lemmas.Option.{same_Some, none-some}
+use Rattle.std.proofs.lemmas.Option.{same_Some, none-some, get_or_from_slice_get}
 use Rattle.bd_limits.specs.Limits.{key_limit}
 use Rattle.bd_keys.specs.Keys.{IsBelow, IsBelowEnd}
 use Rattle.bd_keys.proofs.Order.{below_from}
@@ -15,6 +15,11 @@ use Rattle.bd_leaf.specs.Places.{IsPlace}
 use Rattle.bd_leaf.proofs.Finds.{nothing_at, rising_at, each_at, found_at}
 use Rattle.bd_node.proofs.Touched.{least_back}
 use Rattle.bd_query.specs.Stretches.{IsEmpty, IsFirst, IsEnd, end_limit}
+
+-- the entry of a key says what stands there
+pub place_value : (es : List Entry) (place : ℕ) (k value : List ℕ) (e : Entry) → IsPlace es k (Ok place) → value ≡ (get_or es place e).value → entry_at es k ≡ Some value
+place_value es place k value e h is =
+    h.3 ∙ ap (λ (f : Entry). Some f.value) (sym (get_or_from_slice_get es place h.0 e h.1)) ∙ ap (λ (v : List ℕ). Some v) (sym is)
 
 -- before an entry there is one at each place
 some_before : (es : List Entry) (i place : ℕ) (e : Entry) → place ≤ i → slice_get es i ≡ Some e → (f : Entry) × (slice_get es place ≡ Some f)
@@ -43,12 +48,12 @@ gap_empty es place lo rising h k is_k within =
     below_later es place i first.0 e k rising high first.1 there
     (subst (λ (o : Option Entry). IsBelowEnd k (option_map (λ (d : Entry). d.key) o)) first.1 within.1))
 
--- and that entry's key is the first one
-pub gap_first : (es : List Entry) (place : ℕ) (e : Entry) (lo : List ℕ) → IsRising es → IsPlace es lo (Err place) → slice_get es place ≡ Some e → IsFirst (λ k. entry_at es k) lo e.key
+-- and that entry's key is the first one, and its value is what stands there
+pub gap_first : (es : List Entry) (place : ℕ) (e : Entry) (lo : List ℕ) → IsRising es → IsPlace es lo (Err place) → slice_get es place ≡ Some e → IsFirst (λ k. entry_at es k) lo e.key e.value
 gap_first es place e lo rising h there = record {
   on = least_back lo e.key (h.2 place e (omega arith) there);
   empty = subst (λ (o : Option Entry). IsEmpty (λ k. entry_at es k) lo (option_map (λ (d : Entry). d.key) o)) there (gap_empty es place lo rising h);
-  some = subst (λ (o : Option (List ℕ)). IsSome o) (sym (found_at es place e e.key rising there refl)) refl;
+  has = found_at es place e e.key rising there refl;
 }
 
 -- and where there is none, nothing stands from the key on

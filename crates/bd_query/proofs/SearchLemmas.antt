@@ -4,13 +4,13 @@ use Rattle.std.specs.Prelude.{IsSome, if◌then◌else◌}
 use Rattle.std.proofs.lemmas.Bool.{cases_order, cases_Bool, cond-true, cond-false}
 use Rattle.bd_keys.specs.Keys.{IsKey, IsBelow, IsAtLeast, Begins}
 use Rattle.bd_keys.proofs.Order.{first_less, first_same, first_more, not_below_nil, IsKey-rest, Begins-cons, Begins-uncons}
-use Rattle.bd_message.specs.KeyMaps.{At, IsFound, IsNext}
+use Rattle.bd_message.specs.KeyMaps.{At, IsFound, IsNext, IsNextEntry}
 use Rattle.bd_node.specs.Nodes.{is_key}
 use Rattle.bd_node.specs.Meaning.{Nodes, at}
 use Rattle.bd_node.proofs.Lookup.{key-is_key, is_key-key}
 use Rattle.bd_node.proofs.LawLemmas.{others_have_nothing}
 use Rattle.bd_query.specs.declared.turns.Turn.{Turn}
-use Rattle.bd_query.specs.declared.turns.Turn.TheVariants.{Next, Passed}
+use Rattle.bd_query.specs.declared.turns.Turn.TheVariants.{Found, Next, Passed}
 use Rattle.bd_query.specs.Stretches.{IsEnd, IsEmpty, IsFirst, IsTurn, PassesTo}
 use Rattle.bd_query.specs.Asks.{AreVisitsOfWay}
 use Rattle.bd_query.proofs.AskLemmas.{IsSearching, searching_on}
@@ -204,17 +204,17 @@ pub low_other : (has : At) (from within low : List ℕ) → IsLow has from withi
 low_other has from within low h other k found = other (begins_between within low k h.within_on (h.rest k found) found.2)
 
 -- one that finds a value at the key has found it
-pub low_found : (has : At) (from within low : List ℕ) → IsLow has from within low → Begins low within → IsSome (has low) → IsNext has from within (Some low)
-low_found has from within low h begins some = ((some, h.from_on, begins), h.rest)
+pub low_found : (has : At) (from within low value : List ℕ) → IsLow has from within low → Begins low within → has low ≡ Some value → IsNextEntry has from within (Some (low, value))
+low_found has from within low value h begins is = (((subst (λ (o : Option (List ℕ)). IsSome o) (sym is) refl, h.from_on, begins), h.rest), is)
 
 -- one that finds the next key ends it there: with that key where it begins as it is to, and else with none
-pub low_next : (nodes : Nodes) (id : ℕ) (from within low key : List ℕ) → IsLow (at nodes id) from within low → IsFirst (at nodes id) low key → IsNext (at nodes id) from within (if begins key within then Some key else None)
-low_next nodes id from within low key h first =
+pub low_next : (nodes : Nodes) (id : ℕ) (from within low key value : List ℕ) → IsLow (at nodes id) from within low → IsFirst (at nodes id) low key value → IsNextEntry (at nodes id) from within (if begins key within then Some (key, value) else None)
+low_next nodes id from within low key value h first =
     let on : IsLow (at nodes id) from within key = low_passed nodes id from within low key h first.on first.empty in
     elim (cases_Bool (begins key within)) [
-      | inl same ↦ subst (λ (o : Option (List ℕ)). IsNext (at nodes id) from within o) (sym (cond-true (begins key within) (Some key) None same))
-          (low_found (at nodes id) from within key on (true_begins key within same) first.some)
-      | inr other ↦ subst (λ (o : Option (List ℕ)). IsNext (at nodes id) from within o) (sym (cond-false (begins key within) (Some key) None other))
+      | inl same ↦ subst (λ (o : Option (List ℕ × List ℕ)). IsNextEntry (at nodes id) from within o) (sym (cond-true (begins key within) (Some (key, value)) None same))
+          (low_found (at nodes id) from within key value on (true_begins key within same) first.has)
+      | inr other ↦ subst (λ (o : Option (List ℕ × List ℕ)). IsNextEntry (at nodes id) from within o) (sym (cond-false (begins key within) (Some (key, value)) None other))
           (low_other (at nodes id) from within key on (λ same. not_both (begins_true key within same) other))
     ]
 
@@ -249,10 +249,17 @@ turned_past nodes id from within low slice turn some slice_is is_passed is_none 
     low_past nodes id from within slice (subst (λ (k : List ℕ). IsLow (at nodes id) from within k) (sym slice_is) low_is)
     (subst (λ (t : Turn). IsTurn (at nodes id) slice t) (is_passed ∙ ap (λ (e : Option (List ℕ)). Passed e) is_none) said)
 
-pub turned_next : (nodes : Nodes) (id : ℕ) (from within low slice key : List ℕ) (turn : Turn) → slice ≡ low → turn ≡ Next key
-    → IsTurn (at nodes id) slice turn → IsLow (at nodes id) from within low → IsNext (at nodes id) from within (if begins key within then Some key else None)
-turned_next nodes id from within low slice key turn slice_is is_next said low_is =
-    low_next nodes id from within slice key (subst (λ (k : List ℕ). IsLow (at nodes id) from within k) (sym slice_is) low_is)
+pub turned_found : (nodes : Nodes) (id : ℕ) (from within low slice value : List ℕ) (turn : Turn) → slice ≡ low → turn ≡ Found value
+    → IsTurn (at nodes id) slice turn → IsLow (at nodes id) from within low → Begins slice within → IsNextEntry (at nodes id) from within (Some (low, value))
+turned_found nodes id from within low slice value turn slice_is is_found said low_is begins_it =
+    subst (λ (k : List ℕ). IsNextEntry (at nodes id) from within (Some (k, value))) slice_is
+    (low_found (at nodes id) from within slice value (subst (λ (k : List ℕ). IsLow (at nodes id) from within k) (sym slice_is) low_is) begins_it
+    (subst (λ (t : Turn). IsTurn (at nodes id) slice t) is_found said))
+
+pub turned_next : (nodes : Nodes) (id : ℕ) (from within low slice key value : List ℕ) (turn : Turn) → slice ≡ low → turn ≡ Next key value
+    → IsTurn (at nodes id) slice turn → IsLow (at nodes id) from within low → IsNextEntry (at nodes id) from within (if begins key within then Some (key, value) else None)
+turned_next nodes id from within low slice key value turn slice_is is_next said low_is =
+    low_next nodes id from within slice key value (subst (λ (k : List ℕ). IsLow (at nodes id) from within k) (sym slice_is) low_is)
     (subst (λ (t : Turn). IsTurn (at nodes id) slice t) is_next said)
 
 pub turned_ways : (nodes : Nodes) (id : ℕ) (from within low slice end items : List ℕ) (most : ℕ) (turn : Turn) (some : Option (List ℕ)) (before now after : ℕ) → IsTurned from within low slice most turn → turn ≡ Passed some → some ≡ Some end → items ≡ end

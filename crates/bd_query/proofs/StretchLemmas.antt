@@ -2,6 +2,7 @@
 use Rattle.std.proofs.Common.{◌≡◌, ℕ, zero, suc, ◌+◌, ◌<◌, ◌≤◌, true, false, not, cond, List, [], ◌∷◌, ◌++◌, length, take, drop, refl, sym, ap, subst, ◌∙◌, Option, None, Some, arith, inl, inr}
 use Rattle.std.specs.Prelude.{IsSome, IfSome, slice_get, count_by, ◌==◌}
 use Rattle.std.specs.List.{flat_map}
+use Rattle.std.specs.Option.{unwrap_or}
 use Rattle.std.specs.Ordering.{is_lt}
 use Rattle.std.proofs.lemmas.Bool.{and_parts, and_from, cond-true, cases_lt}
 use Rattle.std.proofs.Common.{get_or, Result, Ok, Err}
@@ -12,8 +13,9 @@ use Rattle.std.proofs.lemmas.Cmp.{nat_list_cmp_total as total}
 use Rattle.bd_limits.specs.Limits.{key_limit}
 use Rattle.bd_keys.specs.Keys.{key_cmp, IsKey, IsBelow, IsBelowEnd, IsAtLeast, InRange, Begins}
 use Rattle.bd_keys.proofs.Order.{not_below_itself, key_cmp-front}
+use Rattle.bd_keys.specs.Edits.{overwritten}
 use Rattle.bd_message.specs.declared.message.Message.{Message}
-use Rattle.bd_message.specs.declared.message.Message.TheVariants.{Del, Cut}
+use Rattle.bd_message.specs.declared.message.Message.TheVariants.{Put, Del, Patch, Cut, Goto}
 use Rattle.bd_message.specs.KeyMaps.{At}
 use Rattle.bd_message.specs.Messages.{IsMessage}
 use Rattle.bd_message.specs.Effect.{NodesAt, same_key, begins, is_cut, rest, act, acts}
@@ -22,19 +24,19 @@ use Rattle.bd_node.specs.declared.node.Edge.{Edge}
 use Rattle.bd_node.specs.declared.node.Node.{Node}
 use Rattle.bd_node.specs.declared.node.Node.TheVariants.{Inner}
 use Rattle.bd_node.specs.Touching.{touches, NoneTouches}
-use Rattle.bd_node.specs.Nodes.{edge_names, message_names, names, child_at, edge_at, edge_of, entry_at, node_at}
+use Rattle.bd_node.specs.Nodes.{edge_names, message_names, child_at, edge_at, edge_of, node_at}
 use Rattle.bd_node.specs.Shape.{end_before, EachEdge, SomeEdge, IsEdge, IsInner, IsShape, AreRising}
 use Rattle.bd_node.proofs.Edges.{not_less_lt}
 use Rattle.bd_node.proofs.LawLemmas.{edge_some, edge_only}
 use Rattle.bd_message.proofs.Prefixes.{rest-append}
 use Rattle.bd_node.proofs.Touched.{touched_first, below_longer}
-use Rattle.bd_query.proofs.Parts.{acts_rest}
+use Rattle.bd_query.proofs.Parts.{acts_rest, named_more}
 use Rattle.bd_node.proofs.Shapes.{inner_rising}
 use Rattle.bd_node.proofs.Counted.{counted_first, counted_second, message_counted, edge_of_counted}
 use Rattle.bd_query.proofs.EndLemmas.{least_trans, begins_split, begins_joined, no_key_between, below_or_least, below_within, length-take}
 use Rattle.bd_query.specs.declared.stretch.Stretch.{Stretch}
 use Rattle.bd_query.specs.declared.stretch.Stretch.TheVariants.{Present, Next, Absent, Child}
-use Rattle.bd_query.specs.Stretches.{IsEnd, IsWithin, end_limit, NoneFrom, IsNewest, IsWay, IsEmpty, IsAsked, IsStretch, EndsBy, AsksOneOf}
+use Rattle.bd_query.specs.Stretches.{IsEnd, IsWithin, end_limit, gives_value, NoneFrom, IsNewest, IsWay, IsEmpty, IsAsked, IsStretch, EndsBy, AsksOneOf}
 
 pub if_both : {T E : Type 0} (P Q R : T → Type 0) (r : Result T E) → IfOk r P → IfOk r Q → ((x : T) → P x → Q x → R x) → IfOk r R
 if_both P Q R (Ok x) h i f = f x h i
@@ -48,8 +50,16 @@ begins_true k p h = subst (λ (l : List ℕ). begins l p ≡ true) (sym (begins_
 pub true_begins : (k p : List ℕ) → begins k p ≡ true → Begins k p
 true_begins k p h = subst (λ (l : List ℕ). Begins l p) (sym (begins-is k p h)) (begins_joined p (rest p k))
 
-pub put_there : (lo key value : List ℕ) (old : Option (List ℕ)) → same_key lo key ≡ true → IsSome (cond (same_key lo key) (Some value) old)
+put_there : (lo key value : List ℕ) (old : Option (List ℕ)) → same_key lo key ≡ true → IsSome (cond (same_key lo key) (Some value) old)
 put_there lo key value old h = subst (λ (o : Option (List ℕ)). IsSome o) (sym (cond-true (same_key lo key) (Some value) old h)) refl
+
+-- a message that leaves a value does so at a key that it changes
+given_there : (below : NodesAt) (m : Message) (lo : List ℕ) (old : Option (List ℕ)) → gives_value m ≡ true → touches m lo ≡ true → IsSome (act below m lo old)
+given_there below (Put key value) lo old gives changes = put_there lo key value old changes
+given_there below (Del key) lo old gives changes = absurd (cc)
+given_there below (Patch key off bytes) lo old gives changes = put_there lo key (overwritten (unwrap_or old []) off bytes) old changes
+given_there below (Cut prefix from) lo old gives changes = absurd (cc)
+given_there below (Goto prefix source child) lo old gives changes = absurd (cc)
 
 pub del_empty : (lo key : List ℕ) (old : Option (List ℕ)) → same_key lo key ≡ true → IsEmpty (λ k. cond (same_key k key) None old) lo (Some (lo ++ 0 ∷ []))
 del_empty lo key old h k is_k within =
@@ -154,10 +164,10 @@ newest_decides below ms k from place m first le there none =
 -- what is, key by key, what something has of which all that is said holds that
 pub stretch_from : (below : NodesAt) (at : At) (lo : List ℕ) (end : Option (List ℕ)) (s : Stretch) → EndsBy end s → IsKey lo → IsBelowEnd lo end
     → ((k : List ℕ) → IsKey k → InRange lo end k → (f : At) × (at k ≡ f k) × IsStretch below f lo s) → IsStretch below at lo s
-stretch_from below at lo end Present by is_lo above each =
+stretch_from below at lo end (Present part) by is_lo above each =
     let here = each lo is_lo (not_below_itself lo, above) in
-    subst (λ (o : Option (List ℕ)). IsSome o) (sym here.1) here.2
-stretch_from below at lo end (Next key) by is_lo above each =
+    (subst (λ (o : Option (List ℕ)). IsSome o) (sym here.1) here.2.0, here.1 ∙ here.2.1)
+stretch_from below at lo end (Next key value) by is_lo above each =
     let first = (each lo is_lo (not_below_itself lo, above)).2 in
     let here = each key first.0 (first.1.on, by) in (
       first.0,
@@ -166,7 +176,7 @@ stretch_from below at lo end (Next key) by is_lo above each =
         empty = λ k is_k within.
             let near = each k is_k (within.0, below_within k key end within.1 by) in
             near.1 ∙ near.2.1.empty k is_k within;
-        some = subst (λ (o : Option (List ℕ)). IsSome o) (sym here.1) here.2.1.some;
+        has = here.1 ∙ here.2.1.has;
       },
     )
 stretch_from below at lo end (Absent e) by is_lo above each = λ k is_k within.
@@ -176,6 +186,15 @@ stretch_from below at lo end (Child e child lift source) by is_lo above each = �
     let here = each k is_k (within.0, by k within.1) in
     let said = here.2 k is_k within in
     (said.0, here.1 ∙ said.1)
+
+-- a value that the newest message leaves stands at the key
+pub through_given : (below : NodesAt) (e : Edge) (ms : List Message) (lo : List ℕ) (end : Option (List ℕ)) (place : ℕ) (m : Message) → IsNewest ms e.seen lo (Some place) end → slice_get ms place ≡ Some m → IsBelowEnd lo end → gives_value m ≡ true
+    → IsSome (edge_at below e ms lo)
+through_given below e ms lo end place m newest there above gives =
+    let found = newest.2 in
+    let changes : touches m lo ≡ true = subst (λ (n : Message). touches n lo ≡ true) (same_Some found.0 m (sym found.1 ∙ there)) found.2 in
+    let decides = newest_decides below ms lo e.seen place m (child_at below e.child (e.source ++ drop e.lift lo)) newest.0 there (newest.1 lo (not_below_itself lo, above)) in
+    subst (λ (o : Option (List ℕ)). IsSome o) (sym decides.1) (given_there below m lo decides.0 gives changes)
 
 -- the message that decides says it
 pub through_message : (below : NodesAt) (e : Edge) (ms : List Message) (lo : List ℕ) (end : Option (List ℕ)) (place : ℕ) (m : Message) (s : Stretch) → IsNewest ms e.seen lo (Some place) end → slice_get ms place ≡ Some m → EndsBy end s → IsKey lo → IsBelowEnd lo end
@@ -195,8 +214,8 @@ through_edge below e ms lo end s newest seen by is_lo above said =
     ((λ l. child_at below e.child (e.source ++ drop e.lift l)), acts_rest below ms k e.seen (child_at below e.child (e.source ++ drop e.lift k)) seen (newest k within), said))
 
 pub ends_within : (new end : Option (List ℕ)) (s : Stretch) → IsWithin new end → EndsBy new s → EndsBy end s
-ends_within new end Present h by = tt
-ends_within new end (Next key) h by = h key by
+ends_within new end (Present part) h by = tt
+ends_within new end (Next key value) h by = h key by
 ends_within new end (Absent e) h by = λ k below. h k (by k below)
 ends_within new end (Child e child lift source) h by = λ k below. h k (by k below)
 
@@ -321,8 +340,8 @@ counted_front : (c : ℕ) (xs ys zs : List ℕ) → count_by (λ name. name == c
 counted_front c xs ys zs le = omega (arith, sum_by-append (λ (x : ℕ). cond (x == c) 1 0) xs zs, sum_by-append (λ (x : ℕ). cond (x == c) 1 0) ys zs)
 
 pub asks_more : (xs ys : List ℕ) (s : Stretch) → ((c : ℕ) → count_by (λ name. name == c) xs ≤ count_by (λ name. name == c) ys) → AsksOneOf xs s → AsksOneOf ys s
-asks_more xs ys Present more h = tt
-asks_more xs ys (Next key) more h = tt
+asks_more xs ys (Present part) more h = named_more xs ys part.base more h
+asks_more xs ys (Next key value) more h = tt
 asks_more xs ys (Absent end) more h = tt
 asks_more xs ys (Child end child lift source) more h = (let m : count_by (λ name. name == child) xs ≤ count_by (λ name. name == child) ys = more child in omega arith)
 

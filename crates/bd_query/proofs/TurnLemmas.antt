@@ -1,6 +1,6 @@
 -- What turns find.
-use Rattle.std.proofs.Common.{◌≡◌, ℕ, ◌+◌, ◌<◌, ◌≤◌, List, [], ◌∷◌, ◌++◌, take, drop, sym, subst, ◌∙◌, Option, None, Some, arith}
-use Rattle.std.specs.Prelude.{◌⊎◌, ◌↔◌, IsSome}
+use Rattle.std.proofs.Common.{◌≡◌, ℕ, ◌+◌, ◌<◌, ◌≤◌, List, [], ◌∷◌, ◌++◌, take, drop, ◌∙◌, Option, None, Some, arith}
+use Rattle.std.specs.Prelude.{◌⊎◌, ◌↔◌}
 use Rattle.bd_limits.specs.Limits.{key_limit}
 use Rattle.bd_keys.specs.Keys.{IsKey, IsBelowEnd, InRange, Begins}
 use Rattle.bd_keys.proofs.Order.{not_below_itself, IsKey-rest, IsKey-cons, IsKey-drop}
@@ -17,7 +17,8 @@ use Rattle.bd_query.specs.declared.stretch.Stretch.{Stretch}
 use Rattle.bd_query.specs.declared.stretch.Stretch.TheVariants.{Present, Next, Absent, Child}
 use Rattle.bd_query.specs.declared.turns.Turn.{Turn}
 use Rattle.bd_query.specs.declared.turns.Turn.TheVariants.{Found, Next, Passed}
-use Rattle.bd_query.specs.Stretches.{IsEnd, IsWithin, end_limit, way_limit, IsEmpty, IsAsked, IsStretch, AsksOneOf, AsksLower, IsTurn, PassesTo}
+use Rattle.bd_query.specs.Stretches.{IsEnd, end_limit, way_limit, IsEmpty, IsAsked, IsStretch, AsksOneOf, AsksLower, PassesTo}
+use Rattle.bd_query.proofs.Going.{lower_base}
 use Rattle.bd_query.proofs.EndLemmas.{lesser_end, end_weaker}
 use Rattle.bd_query.proofs.StretchLemmas.{stretch_from}
 
@@ -31,15 +32,15 @@ IsKey-append (x ∷ a) b is_a is_b = IsKey-cons x (a ++ b) (is_a 0) (IsKey-appen
 
 -- what a node asks is kept and of a lower level
 pub asks_lower : (t : Table) (level : ℕ) (n : Node) (s : Stretch) → IsNodeOf t level n → AsksOneOf (names n) s → AsksLower t level s
-asks_lower t level n Present own h = tt
-asks_lower t level n (Next key) own h = tt
+asks_lower t level n (Present part) own h = lower_base t level n part.base own h
+asks_lower t level n (Next key value) own h = tt
 asks_lower t level n (Absent end) own h = tt
 asks_lower t level n (Child end child lift source) own h = named_has (IsLower t level) child (names n) own.lower h
 
 -- no stretch ends after all keys
 ends_nowhere : (s : Stretch) → Rattle.bd_query.specs.Stretches.EndsBy None s
-ends_nowhere Present = tt
-ends_nowhere (Next key) = tt
+ends_nowhere (Present part) = tt
+ends_nowhere (Next key value) = tt
 ends_nowhere (Absent end) = λ k below. tt
 ends_nowhere (Child end child lift source) = λ k below. tt
 
@@ -78,13 +79,12 @@ raised_empty key source lift most end below raised least at child h asked empty 
     let said = asked k is_k (within.0, both.0) in
     said.1 ∙ empty (source ++ drop lift k) (IsKey-append source (drop lift k) h.source_is (IsKey-drop lift k is_k)) (h.inside k said.0 (within.0, both.1))
 
-pub raised_found : (key source : List ℕ) (lift : ℕ) (end : Option (List ℕ)) (at child : At) → IsKey key → IsBelowEnd key end → IsAsked at child key end lift source → IsSome (child (source ++ drop lift key)) → IsSome (at key)
-raised_found key source lift end at child is_key above asked found =
-    subst (λ (o : Option (List ℕ)). IsSome o) (sym (asked key is_key (not_below_itself key, above)).1) found
+pub raised_found : (key source value : List ℕ) (lift : ℕ) (end : Option (List ℕ)) (at child : At) → IsKey key → IsBelowEnd key end → IsAsked at child key end lift source → child (source ++ drop lift key) ≡ Some value → at key ≡ Some value
+raised_found key source value lift end at child is_key above asked found = (asked key is_key (not_below_itself key, above)).1 ∙ found
 
 pub passes_weaker : (key : List ℕ) (few more : ℕ) (turn : Turn) → few ≤ more → PassesTo key few turn → PassesTo key more turn
-passes_weaker key few more Found le h = tt
-passes_weaker key few more (Next next) le h = end_weaker key few more (Some next) le h
+passes_weaker key few more (Found value) le h = tt
+passes_weaker key few more (Next next value) le h = end_weaker key few more (Some next) le h
 passes_weaker key few more (Passed end) le h = end_weaker key few more end le h
 
 -- one level more

@@ -18,10 +18,10 @@ use bd_node::NodeStore;
 use std::alloc::{AllocError, Global};
 
 /// The least key of a kept node, of any length, that is at least `from`, begins with `within` and
-/// has a value, and that value. Each turn rules out the keys from one up to another; the search ends at that one
-/// where the turn finds that it has a value, and else goes on there. The nodes that are visited are
-/// those that are asked on ways down along these keys; a way goes no further where a cut decides,
-/// so what lies below a range that was cut is not visited.
+/// has a value, and that value. Each turn rules out the keys from one up to another; the search ends
+/// at that one where the turn finds that it has a value, and else goes on there. The nodes that are
+/// visited are those that are asked on ways down along these keys; a way goes no further where a cut
+/// decides, so what lies below a range that was cut is not visited.
 pub fn next<S: NodeStore>(
     alloc: Global,
     store: &mut S,
@@ -44,7 +44,8 @@ pub fn next<S: NodeStore>(
     // that was asked, and no longer than the node's level allows, whatever the nodes are.
     let mut low = Vec::from_slice(alloc, greater(from, within))?;
     'turns: while starts(low.as_slice(), within) {
-        match turn_at(alloc, store, root, low.as_slice())? {
+        let turn = turn_at(alloc, store, root, low.as_slice())?;
+        match turn {
             Turn::Found { value } => return Ok(Some((low, value.into_vec()?))),
             Turn::Next { key, value } => return Ok(beginning(key, value, within)?),
             Turn::Passed { end: None } => return Ok(None),

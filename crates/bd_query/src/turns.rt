@@ -1,7 +1,7 @@
 //! Turns of a search: each is one way down along a key, and finds the key's value, which key is the
 //! next that has one and its value, or up to which key none has one.
 
-ghost use Rattle.std.specs.Prelude.{◌≡◌, ℕ, ◌+◌, ◌≤◌, List, ◌++◌, length, take, drop, Some, IsSome, IfOk, OnOk};
+ghost use Rattle.std.specs.Prelude.{◌≡◌, ℕ, ◌+◌, ◌≤◌, List, ◌++◌, length, take, drop, Some, IfOk, OnOk};
 ghost use Rattle.bd_limits.specs.Limits.{key_limit};
 ghost use Rattle.bd_keys.specs.Keys.{IsKey, IsBelowEnd, IsAtLeast, InRange, Begins};
 ghost use Rattle.bd_message.specs.Effect.{NodesAt};
@@ -34,9 +34,9 @@ pub enum Turn {
     Passed { end: Option<Bytes> },
 }
 
-/// One way down from a kept node along a key: it finds the value there, or the next key that has one
-/// and its value, or up to which end above it no key has one. A node asks at most one other, and none
-/// where a message gives or takes all of the value.
+/// One way down from a kept node along a key: it finds the value there, or the next key that has
+/// one and its value, or up to which end above it no key has one. A node asks at most one other,
+/// and none where a message gives or takes all of the value.
 pub fn turn_at<S: NodeStore>(
     alloc: Global,
     store: &mut S,
@@ -60,7 +60,8 @@ pub fn turn_at<S: NodeStore>(
         (OnOk result (AreVisitsOfWay (S.nodes store.old) id key.now
         (S.visit_count store.old) (S.visit_count store.new))) }
 {
-    match stretch_at(alloc, store, id, key)? {
+    let stretch = stretch_at(alloc, store, id, key)?;
+    match stretch {
         Stretch::Present(part) => {
             let value = value_of(alloc, store, part)?;
             Ok(Turn::Found { value })

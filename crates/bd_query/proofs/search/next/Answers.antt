@@ -1,13 +1,13 @@
-use Rattle.std.proofs.Common.{ℕ, refl, sym, subst, ◌∙◌, List, Option}
+use Rattle.std.proofs.Common.{ℕ, refl, sym, subst, ◌∙◌, List, Option, Some}
 use Rattle.bd_keys.specs.Keys.{Begins}
-use Rattle.bd_message.specs.KeyMaps.{IsNext}
+use Rattle.bd_message.specs.KeyMaps.{IsNextEntry}
 use Rattle.bd_message.proofs.Finds.{not_both}
 use Rattle.bd_node.specs.Meaning.{Nodes, at}
 use Rattle.bd_node.specs.Tables.{Table, IsSound}
 use Rattle.bd_query.specs.Stretches.{IsTurn, PassesTo, way_limit}
 use Rattle.bd_query.specs.Asks.{AreVisitsOfWay}
 use Rattle.bd_query.proofs.AskLemmas.{IsSearching, searching_begun, searched_last}
-use Rattle.bd_query.proofs.SearchLemmas.{IsLow, turned_ways, low_first, low_other, turned_fewer, turned_low, turned_past, turned_next}
+use Rattle.bd_query.proofs.SearchLemmas.{IsLow, turned_ways, low_first, low_other, turned_fewer, turned_low, turned_past, turned_found, turned_next}
 use Rattle.bd_query.proofs.search.next.Goals as goal
 
 pub turns-init : goal.turns-init
@@ -32,17 +32,17 @@ returns-in-Passed-None-clause-next g c known sound =
     let inv = c.turns.invariant in
     let still : IsSound (g.S.NodeStore.nodes c.turns.store) (g.S.NodeStore.table c.turns.store) =
     subst (λ (n : Nodes). IsSound n (g.S.NodeStore.table c.turns.store)) (sym (inv.nodes known)) (subst (λ (u : Table). IsSound nodes u) (sym inv.table) sound) in
-    turned_past nodes c.args.root c.args.from.now c.args.within.now c.turns.low.items c.as_slice-in-turns.result.now c.in_ok-turn_at.field-0 c.in-Passed-None.end c.as_slice-in-turns.ensures.value c.in-Passed-None.is c.in-Passed-None.end-is
-    (subst (λ (n : Nodes). IsTurn (at n c.args.root) c.as_slice-in-turns.result.now c.in_ok-turn_at.field-0) (inv.nodes known) (c.in_ok-turn_at.ensures.turn (inv.known known) still)) (inv.low known sound)
+    turned_past nodes c.args.root c.args.from.now c.args.within.now c.turns.low.items c.as_slice-in-turns.result.now c.in_ok-turn.turn c.in-Passed-None.end c.as_slice-in-turns.ensures.value c.in-Passed-None.is c.in-Passed-None.end-is
+    (subst (λ (n : Nodes). IsTurn (at n c.args.root) c.as_slice-in-turns.result.now c.in_ok-turn.turn) (inv.nodes known) (c.in_ok-turn.ensures.turn (inv.known known) still)) (inv.low known sound)
 
 pub turns-smaller : goal.turns-smaller
 turns-smaller g c =
     let inv = c.turns.invariant in
-    turned_fewer c.args.from.now c.args.within.now c.turns.low.items c.as_slice-in-turns.result.now c.in-Passed-Some.end c.as_slice-in-Passed-Some.result.now c.in_ok-low-in-Passed-Some.low.items (way_limit ((g.S.NodeStore.table c.args.store.now).level c.args.root)) c.in_ok-turn_at.field-0 c.in-Passed-Some.end'
+    turned_fewer c.args.from.now c.args.within.now c.turns.low.items c.as_slice-in-turns.result.now c.in-Passed-Some.end c.as_slice-in-Passed-Some.result.now c.in_ok-low-in-Passed-Some.low.items (way_limit ((g.S.NodeStore.table c.args.store.now).level c.args.root)) c.in_ok-turn.turn c.in-Passed-Some.end'
     (record {
       slice_is = c.as_slice-in-turns.ensures.value;
-      passes = subst (λ (u : Table). PassesTo c.as_slice-in-turns.result.now (way_limit (u.level c.args.root)) c.in_ok-turn_at.field-0) inv.table c.in_ok-turn_at.ensures.passes;
-      bytes = c.in_ok-turn_at.ensures.bytes;
+      passes = subst (λ (u : Table). PassesTo c.as_slice-in-turns.result.now (way_limit (u.level c.args.root)) c.in_ok-turn.turn) inv.table c.in_ok-turn.ensures.passes;
+      bytes = c.in_ok-turn.ensures.bytes;
     }) c.in-Passed-Some.is c.in-Passed-Some.end-is c.as_slice-in-Passed-Some.ensures c.in_ok-low-in-Passed-Some.ensures c.bytes_of-bytes.ensures.bytes
 
 pub turns-preserved : goal.turns-preserved
@@ -50,32 +50,32 @@ turns-preserved g c =
     let nodes : Nodes = g.S.NodeStore.nodes c.args.store.now in
     let inv = c.turns.invariant in
     record {
-      table = c.in_ok-turn_at.ensures.left.table ∙ inv.table;
-      known = λ k. c.in_ok-turn_at.ensures.left.known (inv.known k);
-      nodes = λ k. c.in_ok-turn_at.ensures.left.kept (inv.known k) ∙ inv.nodes k;
-      read = g.met.S.NodeStore.reads_both c.args.store.now c.turns.store c.turn_at.new.store inv.read c.in_ok-turn_at.ensures.left.read;
-      faults = c.in_ok-turn_at.ensures.cause.kept ∙ inv.faults;
-      loans = c.in_ok-turn_at.ensures.left.same_loans ∙ inv.loans;
+      table = c.in_ok-turn.ensures.left.table ∙ inv.table;
+      known = λ k. c.in_ok-turn.ensures.left.known (inv.known k);
+      nodes = λ k. c.in_ok-turn.ensures.left.kept (inv.known k) ∙ inv.nodes k;
+      read = g.met.S.NodeStore.reads_both c.args.store.now c.turns.store c.turn_at.new.store inv.read c.in_ok-turn.ensures.left.read;
+      faults = c.in_ok-turn.ensures.cause.kept ∙ inv.faults;
+      loans = c.in_ok-turn.ensures.left.same_loans ∙ inv.loans;
       low = λ known sound.
           let still : IsSound (g.S.NodeStore.nodes c.turns.store) (g.S.NodeStore.table c.turns.store) =
           subst (λ (n : Nodes). IsSound n (g.S.NodeStore.table c.turns.store)) (sym (inv.nodes known)) (subst (λ (u : Table). IsSound nodes u) (sym inv.table) sound) in
-          turned_low nodes c.args.root c.args.from.now c.args.within.now c.turns.low.items c.as_slice-in-turns.result.now c.in-Passed-Some.end c.in_ok-low-in-Passed-Some.low.items (way_limit ((g.S.NodeStore.table c.args.store.now).level c.args.root)) c.in_ok-turn_at.field-0 c.in-Passed-Some.end'
+          turned_low nodes c.args.root c.args.from.now c.args.within.now c.turns.low.items c.as_slice-in-turns.result.now c.in-Passed-Some.end c.in_ok-low-in-Passed-Some.low.items (way_limit ((g.S.NodeStore.table c.args.store.now).level c.args.root)) c.in_ok-turn.turn c.in-Passed-Some.end'
           (record {
             slice_is = c.as_slice-in-turns.ensures.value;
-            passes = subst (λ (u : Table). PassesTo c.as_slice-in-turns.result.now (way_limit (u.level c.args.root)) c.in_ok-turn_at.field-0) inv.table c.in_ok-turn_at.ensures.passes;
-            bytes = c.in_ok-turn_at.ensures.bytes;
+            passes = subst (λ (u : Table). PassesTo c.as_slice-in-turns.result.now (way_limit (u.level c.args.root)) c.in_ok-turn.turn) inv.table c.in_ok-turn.ensures.passes;
+            bytes = c.in_ok-turn.ensures.bytes;
           }) c.in-Passed-Some.is c.in-Passed-Some.end-is c.in_ok-low-in-Passed-Some.ensures
-          (subst (λ (n : Nodes). IsTurn (at n c.args.root) c.as_slice-in-turns.result.now c.in_ok-turn_at.field-0) (inv.nodes known) (c.in_ok-turn_at.ensures.turn (inv.known known) still)) (inv.low known sound);
+          (subst (λ (n : Nodes). IsTurn (at n c.args.root) c.as_slice-in-turns.result.now c.in_ok-turn.turn) (inv.nodes known) (c.in_ok-turn.ensures.turn (inv.known known) still)) (inv.low known sound);
       ways = λ known sound.
           let still : IsSound (g.S.NodeStore.nodes c.turns.store) (g.S.NodeStore.table c.turns.store) =
           subst (λ (n : Nodes). IsSound n (g.S.NodeStore.table c.turns.store)) (sym (inv.nodes known)) (subst (λ (u : Table). IsSound nodes u) (sym inv.table) sound) in
-          turned_ways nodes c.args.root c.args.from.now c.args.within.now c.turns.low.items c.as_slice-in-turns.result.now c.in-Passed-Some.end c.in_ok-low-in-Passed-Some.low.items (way_limit ((g.S.NodeStore.table c.args.store.now).level c.args.root)) c.in_ok-turn_at.field-0 c.in-Passed-Some.end' (g.S.NodeStore.visit_count c.args.store.now) (g.S.NodeStore.visit_count c.turns.store) (g.S.NodeStore.visit_count c.turn_at.new.store)
+          turned_ways nodes c.args.root c.args.from.now c.args.within.now c.turns.low.items c.as_slice-in-turns.result.now c.in-Passed-Some.end c.in_ok-low-in-Passed-Some.low.items (way_limit ((g.S.NodeStore.table c.args.store.now).level c.args.root)) c.in_ok-turn.turn c.in-Passed-Some.end' (g.S.NodeStore.visit_count c.args.store.now) (g.S.NodeStore.visit_count c.turns.store) (g.S.NodeStore.visit_count c.turn_at.new.store)
           (record {
             slice_is = c.as_slice-in-turns.ensures.value;
-            passes = subst (λ (u : Table). PassesTo c.as_slice-in-turns.result.now (way_limit (u.level c.args.root)) c.in_ok-turn_at.field-0) inv.table c.in_ok-turn_at.ensures.passes;
-            bytes = c.in_ok-turn_at.ensures.bytes;
+            passes = subst (λ (u : Table). PassesTo c.as_slice-in-turns.result.now (way_limit (u.level c.args.root)) c.in_ok-turn.turn) inv.table c.in_ok-turn.ensures.passes;
+            bytes = c.in_ok-turn.ensures.bytes;
           }) c.in-Passed-Some.is c.in-Passed-Some.end-is c.in_ok-low-in-Passed-Some.ensures (inv.ways known sound)
-          (subst (λ (n : Nodes). AreVisitsOfWay n c.args.root c.as_slice-in-turns.result.now (g.S.NodeStore.visit_count c.turns.store) (g.S.NodeStore.visit_count c.turn_at.new.store)) (inv.nodes known) (c.in_ok-turn_at.ensures.way (inv.known known) still));
+          (subst (λ (n : Nodes). AreVisitsOfWay n c.args.root c.as_slice-in-turns.result.now (g.S.NodeStore.visit_count c.turns.store) (g.S.NodeStore.visit_count c.turn_at.new.store)) (inv.nodes known) (c.in_ok-turn.ensures.way (inv.known known) still));
     }
 
 pub returns-clause-next : goal.returns-clause-next
@@ -91,7 +91,18 @@ returns-in-Found-clause-ways g c known sound =
     let still : IsSound (g.S.NodeStore.nodes c.turns.store) (g.S.NodeStore.table c.turns.store) =
     subst (λ (n : Nodes). IsSound n (g.S.NodeStore.table c.turns.store)) (sym (inv.nodes known)) (subst (λ (u : Table). IsSound nodes u) (sym inv.table) sound) in
     searched_last nodes c.args.root c.args.from.now c.turns.low.items c.as_slice-in-turns.result.now (g.S.NodeStore.visit_count c.args.store.now) (g.S.NodeStore.visit_count c.turns.store) (g.S.NodeStore.visit_count c.turn_at.new.store) c.as_slice-in-turns.ensures.value (inv.ways known sound)
-    (subst (λ (n : Nodes). AreVisitsOfWay n c.args.root c.as_slice-in-turns.result.now (g.S.NodeStore.visit_count c.turns.store) (g.S.NodeStore.visit_count c.turn_at.new.store)) (inv.nodes known) (c.in_ok-turn_at.ensures.way (inv.known known) still))
+    (subst (λ (n : Nodes). AreVisitsOfWay n c.args.root c.as_slice-in-turns.result.now (g.S.NodeStore.visit_count c.turns.store) (g.S.NodeStore.visit_count c.turn_at.new.store)) (inv.nodes known) (c.in_ok-turn.ensures.way (inv.known known) still))
+
+pub returns-in-Found-clause-next : goal.returns-in-Found-clause-next
+returns-in-Found-clause-next g c known sound =
+    let nodes : Nodes = g.S.NodeStore.nodes c.args.store.now in
+    let inv = c.turns.invariant in
+    let still : IsSound (g.S.NodeStore.nodes c.turns.store) (g.S.NodeStore.table c.turns.store) =
+    subst (λ (n : Nodes). IsSound n (g.S.NodeStore.table c.turns.store)) (sym (inv.nodes known)) (subst (λ (u : Table). IsSound nodes u) (sym inv.table) sound) in
+    subst (λ (v : List ℕ). IsNextEntry (at nodes c.args.root) c.args.from.now c.args.within.now (Some (c.turns.low.items, v))) (sym c.in_ok-into_vec-in-Found.ensures)
+    (turned_found nodes c.args.root c.args.from.now c.args.within.now c.turns.low.items c.as_slice-in-turns.result.now c.in-Found.value c.in_ok-turn.turn c.as_slice-in-turns.ensures.value c.in-Found.is
+    (subst (λ (n : Nodes). IsTurn (at n c.args.root) c.as_slice-in-turns.result.now c.in_ok-turn.turn) (inv.nodes known) (c.in_ok-turn.ensures.turn (inv.known known) still)) (inv.low known sound)
+    (subst (λ (k : List ℕ). Begins k c.args.within.now) (c.as_slice.ensures.value ∙ sym c.as_slice-in-turns.ensures.value) (c.starts.ensures.0 c.turns-test.true)))
 
 pub returns-in-Passed-None-clause-ways : goal.returns-in-Passed-None-clause-ways
 returns-in-Passed-None-clause-ways g c known sound =
@@ -100,7 +111,7 @@ returns-in-Passed-None-clause-ways g c known sound =
     let still : IsSound (g.S.NodeStore.nodes c.turns.store) (g.S.NodeStore.table c.turns.store) =
     subst (λ (n : Nodes). IsSound n (g.S.NodeStore.table c.turns.store)) (sym (inv.nodes known)) (subst (λ (u : Table). IsSound nodes u) (sym inv.table) sound) in
     searched_last nodes c.args.root c.args.from.now c.turns.low.items c.as_slice-in-turns.result.now (g.S.NodeStore.visit_count c.args.store.now) (g.S.NodeStore.visit_count c.turns.store) (g.S.NodeStore.visit_count c.turn_at.new.store) c.as_slice-in-turns.ensures.value (inv.ways known sound)
-    (subst (λ (n : Nodes). AreVisitsOfWay n c.args.root c.as_slice-in-turns.result.now (g.S.NodeStore.visit_count c.turns.store) (g.S.NodeStore.visit_count c.turn_at.new.store)) (inv.nodes known) (c.in_ok-turn_at.ensures.way (inv.known known) still))
+    (subst (λ (n : Nodes). AreVisitsOfWay n c.args.root c.as_slice-in-turns.result.now (g.S.NodeStore.visit_count c.turns.store) (g.S.NodeStore.visit_count c.turn_at.new.store)) (inv.nodes known) (c.in_ok-turn.ensures.way (inv.known known) still))
 
 pub returns-clause-ways : goal.returns-clause-ways
 returns-clause-ways g c known sound = (c.turns.invariant.ways known sound).visits
@@ -111,9 +122,9 @@ returns-in-Next-clause-next g c known sound =
     let inv = c.turns.invariant in
     let still : IsSound (g.S.NodeStore.nodes c.turns.store) (g.S.NodeStore.table c.turns.store) =
     subst (λ (n : Nodes). IsSound n (g.S.NodeStore.table c.turns.store)) (sym (inv.nodes known)) (subst (λ (u : Table). IsSound nodes u) (sym inv.table) sound) in
-    subst (λ (o : Option (List ℕ)). IsNext (at nodes c.args.root) c.args.from.now c.args.within.now o) (sym c.in_ok-beginning-in-Next.ensures)
-    (turned_next nodes c.args.root c.args.from.now c.args.within.now c.turns.low.items c.as_slice-in-turns.result.now c.in-Next.key c.in_ok-turn_at.field-0 c.as_slice-in-turns.ensures.value c.in-Next.is
-    (subst (λ (n : Nodes). IsTurn (at n c.args.root) c.as_slice-in-turns.result.now c.in_ok-turn_at.field-0) (inv.nodes known) (c.in_ok-turn_at.ensures.turn (inv.known known) still)) (inv.low known sound))
+    subst (λ (o : Option (List ℕ × List ℕ)). IsNextEntry (at nodes c.args.root) c.args.from.now c.args.within.now o) (sym c.in_ok-beginning-in-Next.ensures)
+    (turned_next nodes c.args.root c.args.from.now c.args.within.now c.turns.low.items c.as_slice-in-turns.result.now c.in-Next.key c.in-Next.value c.in_ok-turn.turn c.as_slice-in-turns.ensures.value c.in-Next.is
+    (subst (λ (n : Nodes). IsTurn (at n c.args.root) c.as_slice-in-turns.result.now c.in_ok-turn.turn) (inv.nodes known) (c.in_ok-turn.ensures.turn (inv.known known) still)) (inv.low known sound))
 
 pub returns-in-Next-clause-ways : goal.returns-in-Next-clause-ways
 returns-in-Next-clause-ways g c known sound =
@@ -122,4 +133,4 @@ returns-in-Next-clause-ways g c known sound =
     let still : IsSound (g.S.NodeStore.nodes c.turns.store) (g.S.NodeStore.table c.turns.store) =
     subst (λ (n : Nodes). IsSound n (g.S.NodeStore.table c.turns.store)) (sym (inv.nodes known)) (subst (λ (u : Table). IsSound nodes u) (sym inv.table) sound) in
     searched_last nodes c.args.root c.args.from.now c.turns.low.items c.as_slice-in-turns.result.now (g.S.NodeStore.visit_count c.args.store.now) (g.S.NodeStore.visit_count c.turns.store) (g.S.NodeStore.visit_count c.turn_at.new.store) c.as_slice-in-turns.ensures.value (inv.ways known sound)
-    (subst (λ (n : Nodes). AreVisitsOfWay n c.args.root c.as_slice-in-turns.result.now (g.S.NodeStore.visit_count c.turns.store) (g.S.NodeStore.visit_count c.turn_at.new.store)) (inv.nodes known) (c.in_ok-turn_at.ensures.way (inv.known known) still))
+    (subst (λ (n : Nodes). AreVisitsOfWay n c.args.root c.as_slice-in-turns.result.now (g.S.NodeStore.visit_count c.turns.store) (g.S.NodeStore.visit_count c.turn_at.new.store)) (inv.nodes known) (c.in_ok-turn.ensures.way (inv.known known) still))

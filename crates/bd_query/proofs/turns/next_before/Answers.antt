@@ -15,7 +15,7 @@ returns-then-is_lt-clause-turn c at lo empty there =
       empty = λ k is_k within.
           empty k is_k (within.0, subst (λ (e : Option (List ℕ)). IsBelowEnd k e) (sym c.in-Some-Some.is-1) (below_trans k c.in-Some-Some.key c.in-Some-Some.end within.1 before))
           (subst (λ (e : Option (List ℕ)). IsBelowEnd k e) (sym c.in-Some-Some.is-0) within.1);
-      some = found.1;
+      has = found.1;
     }
 
 pub returns-else-is_lt-clause-turn : goal.returns-else-is_lt-clause-turn

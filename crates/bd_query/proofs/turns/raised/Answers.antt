@@ -1,6 +1,5 @@
 use Rattle.std.proofs.Common.{◌+◌, ◌≤◌, ◌++◌, sym, ap, subst, ◌∙◌, arith, drop, ℕ, List, Option, Some}
 use Rattle.bd_query.specs.declared.turns.Turn.{Turn}
-use Rattle.std.specs.Prelude.{IsSome}
 use Rattle.std.proofs.lemmas.Option.{same_Some}
 use Rattle.bd_limits.specs.Limits.{key_limit}
 use Rattle.bd_keys.proofs.Order.{IsKey-drop}
@@ -12,7 +11,7 @@ use Rattle.bd_query.proofs.turns.raised.Goals as goal
 
 pub returns-in-Found-clause-turn : goal.returns-in-Found-clause-turn
 returns-in-Found-clause-turn c most passes at child asked found =
-    raised_found c.args.key.now c.args.source.now c.args.lift c.args.end at child (λ i. omega (arith, c.type_inv.key i)) c.requires.end.above asked
+    raised_found c.args.key.now c.args.source.now c.in-Found.value c.args.lift c.args.end at child (λ i. omega (arith, c.type_inv.key i)) c.requires.end.above asked
     (subst (λ (t : Turn). IsTurn child (c.args.source.now ++ drop c.args.lift c.args.key.now) t) c.in-Found.is found)
 
 pub returns-in_ok-below-in-Passed-clause-turn : goal.returns-in_ok-below-in-Passed-clause-turn
@@ -34,7 +33,7 @@ returns-in_ok-below-in-Passed-clause-turn c most passes at child asked empty =
 pub returns-in_ok-next-in-Next-clause-turn : goal.returns-in_ok-next-in-Next-clause-turn
 returns-in_ok-next-in-Next-clause-turn c most passes at child asked found =
     let passed : IsEnd (c.args.source.now ++ drop c.args.lift c.args.key.now) most (Some c.in-Next.below) = subst (λ (t : Turn). PassesTo (c.args.source.now ++ drop c.args.lift c.args.key.now) most t) c.in-Next.is passes in
-    let first : IsFirst child (c.args.source.now ++ drop c.args.lift c.args.key.now) c.in-Next.below = subst (λ (t : Turn). IsTurn child (c.args.source.now ++ drop c.args.lift c.args.key.now) t) c.in-Next.is found in
+    let first : IsFirst child (c.args.source.now ++ drop c.args.lift c.args.key.now) c.in-Next.below c.in-Next.value = subst (λ (t : Turn). IsTurn child (c.args.source.now ++ drop c.args.lift c.args.key.now) t) c.in-Next.is found in
     c.next_before.ensures.turn at c.args.key.now
     (λ k is_k within before.
     let said = asked k is_k within in
@@ -44,8 +43,7 @@ returns-in_ok-next-in-Next-clause-turn c most passes at child asked found =
     let same = c.in_ok-next-in-Next.ensures.same k is in
     let raised : IsEnd c.args.key.now (c.args.lift + most) (Some k) = subst (λ (e : Option (List ℕ)). IsEnd c.args.key.now (c.args.lift + most) e) is (c.in_ok-next-in-Next.ensures.end most passed) in (
       least_back c.args.key.now k raised.above,
-      subst (λ (o : Option (List ℕ)). IsSome o)
-          (ap child (same_Some c.in-Next.below (c.args.source.now ++ drop c.args.lift k) same.1) ∙ sym (asked k same.0 (least_back c.args.key.now k raised.above, before)).1) first.some,
+      (asked k same.0 (least_back c.args.key.now k raised.above, before)).1 ∙ sym (ap child (same_Some c.in-Next.below (c.args.source.now ++ drop c.args.lift k) same.1)) ∙ first.has,
     ))
 
 pub returns-in_ok-next-in-Next-clause-passes : goal.returns-in_ok-next-in-Next-clause-passes
