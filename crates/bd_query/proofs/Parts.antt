@@ -1,6 +1,6 @@
 -- What parts say of a key.
 use Rattle.std.proofs.Common.{◌≡◌, ℕ, zero, suc, ◌+◌, ◌<◌, ◌≤◌, true, cond, List, [], ◌∷◌, ◌++◌, length, drop, refl, sym, ap, subst, ◌∙◌, Option, Some, arith, inl, inr}
-use Rattle.std.specs.Prelude.{slice_get, count_by, ◌==◌, Result, Ok, Err, IfOk}
+use Rattle.std.specs.Prelude.{slice_get, count_by, ◌==◌}
 use Rattle.std.specs.List.{flat_map}
 use Rattle.std.proofs.lemmas.Bool.{cond-true, cond-false}
 use Rattle.std.proofs.lemmas.List.Sums.{sum_by-append}
@@ -136,7 +136,3 @@ through_more buffer k seen place next m first old new h le none there changes is
       ∙ sym (asked_over buffer k place next m (asked_of old.base) le none there changes)
       ∙ h.asks;
 }
-
-pub if_ok : {T E : Type 0} (P Q : T → Type 0) (r : Result T E) → IfOk r P → ((x : T) → P x → Q x) → IfOk r Q
-if_ok P Q (Ok x) h f = f x h
-if_ok P Q (Err e) h f = tt

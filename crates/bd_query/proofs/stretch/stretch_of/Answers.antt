@@ -1,4 +1,5 @@
 use Rattle.std.proofs.Common.{◌≡◌, ℕ, ◌+◌, sym, ap, subst, ◌∙◌, arith, List, Option, drop}
+use Rattle.std.proofs.lemmas.Result.{IfOk-weaker}
 use Rattle.bd_message.specs.Effect.{NodesAt}
 use Rattle.bd_node.specs.declared.node.Edge.{Edge}
 use Rattle.bd_node.specs.declared.node.Entry.{Entry}
@@ -7,7 +8,6 @@ use Rattle.bd_node.specs.Nodes.{node_at, names, entry_at}
 use Rattle.bd_node.specs.Shape.{end_before}
 use Rattle.bd_query.specs.declared.stretch.Stretch.{Stretch}
 use Rattle.bd_query.specs.Stretches.{IsEnd, IsWay, IsStretch, EndsBy, AsksOneOf, end_limit}
-use Rattle.bd_query.proofs.Parts.{if_ok}
 use Rattle.bd_query.proofs.StretchLemmas.{if_both, IsPlaced, placed, placed_way, placed_seen, placed_end, placed_stretch, asks_of_node}
 use Rattle.bd_query.proofs.stretch.stretch_of.Goals as goal
 
@@ -37,9 +37,9 @@ through-requires-clause-end c =
 
 pub returns-in-Leaf-clause-stretch : goal.returns-in-Leaf-clause-stretch
 returns-in-Leaf-clause-stretch c =
-    if_ok _ _ c.among.result c.among.ensures.stretch (λ (s : Stretch) said below.
+    IfOk-weaker c.among.result _ _ (λ (s : Stretch) said below.
     subst (λ (n : Node). IsStretch below (node_at below n) c.args.key.now s) (sym c.in-Leaf.is)
-    (subst (λ (es : List Entry). IsStretch below (entry_at es) c.args.key.now s) c.as_slice.ensures (said below)))
+    (subst (λ (es : List Entry). IsStretch below (entry_at es) c.args.key.now s) c.as_slice.ensures (said below))) c.among.ensures.stretch
 
 pub returns-in_ok-end-in-Inner-clause-stretch : goal.returns-in_ok-end-in-Inner-clause-stretch
 returns-in_ok-end-in-Inner-clause-stretch c =
@@ -58,7 +58,7 @@ pub returns-in_ok-end-in-Inner-clause-named : goal.returns-in_ok-end-in-Inner-cl
 returns-in_ok-end-in-Inner-clause-named c =
     let at_place : IsPlaced c.in-Inner.level c.in-Inner.edges c.in-Inner.buffer c.args.key.now c.edge_place-place.result c.index-edges-place.result =
     placed c.args.node.now c.in-Inner.level c.in-Inner.edges c.as_slice-edges.result.now c.in-Inner.buffer c.args.key.now c.edge_place-place.result c.index-edges-place.result c.requires c.in-Inner.is c.as_slice-edges.ensures c.edge_place-place.ensures.edge c.edge_place-place.ensures.within c.index-edges-place.is in
-    if_ok _ _ c.through.result c.through.ensures.named (λ (s : Stretch) h.
+    IfOk-weaker c.through.result _ _ (λ (s : Stretch) h.
     subst (λ (n : Node). AsksOneOf (names n) s) (sym c.in-Inner.is)
     (asks_of_node c.in-Inner.edges c.in-Inner.buffer c.args.key.now c.index-edges-place.result s (sym at_place.edge ∙ at_place.there)
-    h))
+    h)) c.through.ensures.named

@@ -1,4 +1,5 @@
 use Rattle.std.proofs.Common.{◌≡◌, ℕ, List, get_or, sym, subst, ◌∙◌, arith, Option}
+use Rattle.std.proofs.lemmas.Result.{IfOk-weaker}
 use Rattle.bd_message.specs.declared.message.Message.{Message}
 use Rattle.bd_message.specs.Effect.{NodesAt}
 use Rattle.bd_node.specs.Nodes.{edge_at, edge_names}
@@ -6,7 +7,6 @@ use Rattle.bd_query.specs.declared.stretch.Stretch.{Stretch}
 use Rattle.bd_query.specs.Stretches.{IsNewest, IsStretch}
 use Rattle.bd_query.specs.Asks.{asked_first, asked_in}
 use Rattle.bd_query.proofs.AskLemmas.{newest_asks, none_asks}
-use Rattle.bd_query.proofs.Parts.{if_ok}
 use Rattle.bd_query.proofs.StretchLemmas.{if_both, newest_there, through_given, through_message, through_edge, ends_within, way_within, asks_of_message, asks_of_edge}
 use Rattle.bd_query.proofs.stretch.through.Goals as goal
 
@@ -24,14 +24,14 @@ returns-in-Some-2-clause-stretch c =
 
 pub returns-in-Some-2-clause-within : goal.returns-in-Some-2-clause-within
 returns-in-Some-2-clause-within c =
-    if_ok _ _ c.of_message.result c.of_message.ensures.within (λ (s : Stretch) by. ends_within c.in_ok-place.field-0.end c.args.end s c.in_ok-place.ensures.within by)
+    IfOk-weaker c.of_message.result _ _ (λ (s : Stretch) by. ends_within c.in_ok-place.field-0.end c.args.end s c.in_ok-place.ensures.within by) c.of_message.ensures.within
 
 pub returns-in-Some-2-clause-named : goal.returns-in-Some-2-clause-named
 returns-in-Some-2-clause-named c =
     let newest = subst (λ (p : Option ℕ). IsNewest c.args.buffer.now c.args.edge.now.seen c.args.key.now p c.in_ok-place.field-0.end) c.in-Some-2.is c.in_ok-place.ensures.newest in
-    if_ok _ _ c.of_message.result c.of_message.ensures.named (λ (s : Stretch) h.
+    IfOk-weaker c.of_message.result _ _ (λ (s : Stretch) h.
     asks_of_message (edge_names c.args.edge.now) c.args.buffer.now c.in-Some-2.place c.index-list-place-in-Some-2.result s
-    (newest_there c.args.buffer.now c.args.edge.now.seen c.args.key.now c.in_ok-place.field-0.end c.in-Some-2.place c.index-list-place-in-Some-2.result newest (subst (λ (list : List Message). c.index-list-place-in-Some-2.result ≡ get_or list c.in-Some-2.place c.index-list-place-in-Some-2.result) c.as_slice-list.ensures c.index-list-place-in-Some-2.is)) h)
+    (newest_there c.args.buffer.now c.args.edge.now.seen c.args.key.now c.in_ok-place.field-0.end c.in-Some-2.place c.index-list-place-in-Some-2.result newest (subst (λ (list : List Message). c.index-list-place-in-Some-2.result ≡ get_or list c.in-Some-2.place c.index-list-place-in-Some-2.result) c.as_slice-list.ensures c.index-list-place-in-Some-2.is)) h) c.of_message.ensures.named
 
 pub returns-in-None-clause-stretch : goal.returns-in-None-clause-stretch
 returns-in-None-clause-stretch c =
@@ -43,23 +43,23 @@ returns-in-None-clause-stretch c =
 
 pub returns-in-None-clause-within : goal.returns-in-None-clause-within
 returns-in-None-clause-within c =
-    if_ok _ _ c.of_edge.result c.of_edge.ensures.within (λ (s : Stretch) by. ends_within c.in_ok-place.field-0.end c.args.end s c.in_ok-place.ensures.within by)
+    IfOk-weaker c.of_edge.result _ _ (λ (s : Stretch) by. ends_within c.in_ok-place.field-0.end c.args.end s c.in_ok-place.ensures.within by) c.of_edge.ensures.within
 
 pub returns-in-None-clause-named : goal.returns-in-None-clause-named
 returns-in-None-clause-named c =
-    if_ok _ _ c.of_edge.result c.of_edge.ensures.named (λ (s : Stretch) h. asks_of_edge (edge_names c.args.edge.now) _ s h)
+    IfOk-weaker c.of_edge.result _ _ (λ (s : Stretch) h. asks_of_edge (edge_names c.args.edge.now) _ s h) c.of_edge.ensures.named
 
 pub returns-in-Some-2-clause-asks : goal.returns-in-Some-2-clause-asks
 returns-in-Some-2-clause-asks c =
     let newest = subst (λ (p : Option ℕ). IsNewest c.args.buffer.now c.args.edge.now.seen c.args.key.now p c.in_ok-place.field-0.end) c.in-Some-2.is c.in_ok-place.ensures.newest in
-    if_ok _ _ c.of_message.result c.of_message.ensures.asks (λ (s : Stretch) h.
-    newest_asks c.args.buffer.now c.args.edge.now.seen c.args.key.now c.in_ok-place.field-0.end c.in-Some-2.place c.index-list-place-in-Some-2.result (asked_first c.args.edge.now c.args.key.now) (asked_in s c.args.key.now) h newest c.in_ok-place.ensures.end.above (subst (λ (list : List Message). c.index-list-place-in-Some-2.result ≡ get_or list c.in-Some-2.place c.index-list-place-in-Some-2.result) c.as_slice-list.ensures c.index-list-place-in-Some-2.is))
+    IfOk-weaker c.of_message.result _ _ (λ (s : Stretch) h.
+    newest_asks c.args.buffer.now c.args.edge.now.seen c.args.key.now c.in_ok-place.field-0.end c.in-Some-2.place c.index-list-place-in-Some-2.result (asked_first c.args.edge.now c.args.key.now) (asked_in s c.args.key.now) h newest c.in_ok-place.ensures.end.above (subst (λ (list : List Message). c.index-list-place-in-Some-2.result ≡ get_or list c.in-Some-2.place c.index-list-place-in-Some-2.result) c.as_slice-list.ensures c.index-list-place-in-Some-2.is)) c.of_message.ensures.asks
 
 pub returns-in-None-clause-asks : goal.returns-in-None-clause-asks
 returns-in-None-clause-asks c =
     let newest = subst (λ (p : Option ℕ). IsNewest c.args.buffer.now c.args.edge.now.seen c.args.key.now p c.in_ok-place.field-0.end) c.in-None.is c.in_ok-place.ensures.newest in
-    if_ok _ _ c.of_edge.result c.of_edge.ensures.asks (λ (s : Stretch) h.
-    none_asks c.args.buffer.now c.args.edge.now.seen c.args.key.now c.in_ok-place.field-0.end (asked_first c.args.edge.now c.args.key.now) newest c.in_ok-place.ensures.end.above ∙ h)
+    IfOk-weaker c.of_edge.result _ _ (λ (s : Stretch) h.
+    none_asks c.args.buffer.now c.args.edge.now.seen c.args.key.now c.in_ok-place.field-0.end (asked_first c.args.edge.now c.args.key.now) newest c.in_ok-place.ensures.end.above ∙ h) c.of_edge.ensures.asks
 
 pub returns-in_ok-part_through-in-Some-clause-stretch : goal.returns-in_ok-part_through-in-Some-clause-stretch
 returns-in_ok-part_through-in-Some-clause-stretch c below =
