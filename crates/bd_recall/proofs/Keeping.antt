@@ -1,8 +1,8 @@
 -- What is kept after a key was put or removed.
-use Rattle.std.proofs.Common.{◌≡◌, ◌⊎◌, ℕ, zero, suc, Bool, true, false, cond, ◌||◌, List, [], ◌∷◌, ◌++◌, length, drop, get_or, ◌+◌, ◌<◌, inl, inr, refl, sym, ap, ◌∙◌, subst, Ordering, Less, Equal, Greater}
+use Rattle.std.proofs.Common.{◌≡◌, ◌⊎◌, ℕ, zero, suc, Bool, true, false, cond, not, ◌||◌, List, [], ◌∷◌, ◌++◌, length, drop, get_or, ◌+◌, ◌<◌, inl, inr, refl, sym, ap, ◌∙◌, subst, Ordering, Less, Equal, Greater}
 use Rattle.std.specs.Prelude.{Option, Some, None, IfSome, IsSome, is_some}
 use Rattle.std.specs.BTreeMap.{is_at}
-use Rattle.std.specs.BTreeSet.{BTreeSet, replace_key, IsKeyInRange, IsKeyRangeOf}
+use Rattle.std.specs.BTreeSet.{BTreeSet, insert_key, replace_key, IsKeyInRange, IsKeyRangeOf}
 use Rattle.std.specs.List.{find, list_any, slice_get}
 use Rattle.std.specs.declared.ops.Bound.TheVariants.{Included, Unbounded}
 use Rattle.std.specs.Set.{remove_key}
@@ -16,7 +16,7 @@ use Rattle.bd_message.specs.Effect.{act, acts, begins, no_nodes, rest, same_key}
 use Rattle.bd_message.specs.declared.message.Message.{Message}
 use Rattle.bd_message.proofs.Finds.{ties_same, tied, begins-is, begins-append, not_both, acts_more}
 use Rattle.bd_message.proofs.Prefixes.{joined_other}
-use Rattle.bd_recall.specs.Kept.{Found, Findings, kept_for, KeepsFewer, KeepsOthers, KeepsInstead, KeepsWritten}
+use Rattle.bd_recall.specs.Kept.{Found, Findings, kept_for, KeepsFewer, KeepsOthers, KeepsOne, KeepsInstead, KeepsWritten}
 
 -- whether what was found was found at a key
 abbrev pub at_key : List ℕ → Found → Bool
@@ -26,6 +26,10 @@ at_key k = is_at (λ f. key_cmp k f.0)
 abbrev pub found_in : Findings → List ℕ → Option Found
 found_in fs k = find (at_key k) fs
 
+-- a table with what was found added, where nothing is found at its key
+abbrev pub add_in : Findings → Found → Findings
+add_in fs f = insert_key (λ (a b : Found). key_cmp a.0 b.0) fs f
+
 -- a table with what was found put in, in place of what is found at its key
 abbrev pub put_in : Findings → Found → Findings
 put_in fs f = replace_key (λ (a b : Found). key_cmp a.0 b.0) fs f
@@ -34,6 +38,10 @@ pub same_order : (o : Ordering) → is_eq o ≡ true → o ≡ Equal
 same_order Less h = cc
 same_order Equal h = refl
 same_order Greater h = cc
+
+pub turned : (b : Bool) → not b ≡ true → b ≡ false
+turned true h = cc
+turned false h = refl
 
 -- a key is found where it stands in the table
 found_alike : (fs : Findings) (k : List ℕ) → is_some (found_in fs k) ≡ list_any (at_key k) fs
@@ -81,6 +89,18 @@ module _ (f : Found) (q : List ℕ) where
       by Less is later = refl
       by Equal is later = first e is (found_in fs q) (is_eq (key_cmp q f.0)) refl
       by Greater is later = above e is (found_in (put_in fs f) q) (found_in fs q) (is_eq (key_cmp q f.0)) refl later
+
+  found_added : (fs : Findings) → (found_in (add_in fs f) q ≡ found_in fs q) ⊎ (found_in (add_in fs f) q ≡ cond (is_eq (key_cmp q f.0)) (Some f) (found_in fs q))
+  found_added [] = inr refl
+  found_added (e ∷ fs) = by (key_cmp f.0 e.0) refl (found_added fs)
+    where
+      by : (o : Ordering) → key_cmp f.0 e.0 ≡ o → (found_in (add_in fs f) q ≡ found_in fs q) ⊎ (found_in (add_in fs f) q ≡ cond (is_eq (key_cmp q f.0)) (Some f) (found_in fs q))
+          → (found_in (match_ordering o (f ∷ e ∷ fs) (e ∷ fs) (e ∷ add_in fs f)) q ≡ cond (is_eq (key_cmp q e.0)) (Some e) (found_in fs q))
+          ⊎ (found_in (match_ordering o (f ∷ e ∷ fs) (e ∷ fs) (e ∷ add_in fs f)) q ≡ cond (is_eq (key_cmp q f.0)) (Some f) (cond (is_eq (key_cmp q e.0)) (Some e) (found_in fs q)))
+      by Less is later = inr refl
+      by Equal is later = inl refl
+      by Greater is (inl stays) = inl (ap (cond (is_eq (key_cmp q e.0)) (Some e)) stays)
+      by Greater is (inr later) = inr (above e is (found_in (add_in fs f) q) (found_in fs q) (is_eq (key_cmp q f.0)) refl later)
 
 -- after a value was put in
 kept_put : (old : Findings) (k : List ℕ) (v : Option (List ℕ)) → KeepsInstead old k v (put_in old (k, v))
@@ -164,6 +184,32 @@ pub put_after : (a b c : Findings) (f : Found) (k : List ℕ) (v : Option (List 
 put_after a b c f k v is fewer put =
     let made : c ≡ put_in b (k, v) = put ∙ ap (put_in b) is in
     instead_after a b c k v fewer (subst (KeepsInstead b k v) (sym made) (kept_put b k v))
+
+-- none put in where some were forgotten
+pub one_of_fewer : (a b : Findings) (k : List ℕ) (v : Option (List ℕ)) → KeepsFewer a b → KeepsOne a k v b
+one_of_fewer a b k v fewer q = each b q (λ found. (kept_for a q ≡ Some found) ⊎ ((q ≡ k) × (found ≡ v))) (λ found is.
+    inl (if_some (kept_for b q) (λ f. kept_for a q ≡ Some f) found is (fewer q)))
+
+-- one added where some were forgotten before
+pub added_after : (a b c : Findings) (f : Found) (k : List ℕ) (v : Option (List ℕ)) → f ≡ (k, v) → KeepsFewer a b → c ≡ add_in b f → KeepsOne a k v c
+added_after a b c f k v is fewer added q = by (found_added (k, v) q b)
+  where
+    P : Option (List ℕ) → Type 0
+    P found = (kept_for a q ≡ Some found) ⊎ ((q ≡ k) × (found ≡ v))
+
+    made : found_in c q ≡ found_in (add_in b (k, v)) q
+    made = ap (λ (fs : Findings). found_in fs q) (added ∙ ap (add_in b) is)
+
+    shown : (o : Option Found) → found_in c q ≡ o → IfSome (option_map (λ (x : Found). x.1) o) P → IfSome (kept_for c q) P
+    shown o there h = subst (λ (o : Option Found). IfSome (option_map (λ (x : Found). x.1) o) P) (sym there) h
+
+    by : (found_in (add_in b (k, v)) q ≡ found_in b q) ⊎ (found_in (add_in b (k, v)) q ≡ cond (is_eq (key_cmp q k)) (Some (k, v)) (found_in b q)) → IfSome (kept_for c q) P
+    by (inl stays) = shown (found_in b q) (made ∙ stays) (one_of_fewer a b k v fewer q)
+    by (inr put) = to (is_eq (key_cmp q k)) refl put
+      where
+        to : (t : Bool) → is_eq (key_cmp q k) ≡ t → found_in (add_in b (k, v)) q ≡ cond t (Some (k, v)) (found_in b q) → IfSome (kept_for c q) P
+        to true same put = shown (Some (k, v)) (made ∙ put) (inr (tied q k (same_order (key_cmp q k) same), refl))
+        to false other put = shown (found_in b q) (made ∙ put) (one_of_fewer a b k v fewer q)
 
 -- ---- messages
 

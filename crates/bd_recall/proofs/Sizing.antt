@@ -1,11 +1,12 @@
 -- What is kept counts what was put in, without what was taken out.
-use Rattle.std.proofs.Common.{◌≡◌, ℕ, ◌+◌, Bool, true, false, cond, List, [], ◌∷◌, length, arith, ap, refl, Ordering, Less, Equal, Greater}
+use Rattle.std.proofs.Common.{◌≡◌, ℕ, ◌+◌, Bool, true, false, cond, List, [], ◌∷◌, length, arith, ap, refl, ◌∙◌, Ordering, Less, Equal, Greater}
 use Rattle.std.specs.Ordering.{is_eq, match_ordering}
 use Rattle.std.specs.Prelude.{Option, Some, None, is_some}
+use Rattle.std.specs.List.{list_any}
 use Rattle.std.specs.Set.{remove_key}
 use Rattle.std.proofs.lemmas.List.Sums.{sum_by-cons}
 use Rattle.bd_keys.specs.Keys.{key_cmp}
-use Rattle.bd_recall.proofs.Keeping.{at_key, found_in, put_in}
+use Rattle.bd_recall.proofs.Keeping.{add_in, at_key, found_in, not_found, put_in}
 use Rattle.bd_recall.specs.Sizes.{Found, Findings, bytes_kept, entry_size, size_before}
 
 -- what an entry counts
@@ -32,6 +33,23 @@ kept-taken k (e ∷ fs) = by (is_eq (key_cmp k e.0)) (kept-taken k fs)
 pub taken_out : (k : List ℕ) (old new : Findings) (was : Option Found) → was ≡ found_in old k → new ≡ remove_key (at_key k) old
     → bytes_kept new + size_before was ≡ bytes_kept old
 taken_out k old new was is out = omega (arith, kept-taken k old, ap bytes_kept out, ap size_before is)
+
+-- with one more
+kept-added : (fs : Findings) (f : Found) → found_in fs f.0 ≡ None → bytes_kept (add_in fs f) ≡ bytes_kept fs + size f
+kept-added [] f none = omega (arith, kept-cons f [])
+kept-added (e ∷ fs) f none = by (key_cmp f.0 e.0) (kept-added fs f) none
+  where
+    by : (o : Ordering) → (found_in fs f.0 ≡ None → bytes_kept (add_in fs f) ≡ bytes_kept fs + size f) → cond (is_eq o) (Some e) (found_in fs f.0) ≡ None
+        → bytes_kept (match_ordering o (f ∷ e ∷ fs) (e ∷ fs) (e ∷ add_in fs f)) ≡ bytes_kept (e ∷ fs) + size f
+    by Less later none = omega (arith, kept-cons f (e ∷ fs))
+    by Equal later none = cc
+    by Greater later none = omega (arith, later none, kept-cons e fs, kept-cons e (add_in fs f))
+
+-- with one more for a key that doesn't stand there
+pub added_bytes : (old new : Findings) (f : Found) (k : List ℕ) (v : Option (List ℕ)) → f ≡ (k, v) → list_any (at_key f.0) old ≡ false → new ≡ add_in old f
+    → bytes_kept new ≡ bytes_kept old + entry_size k v
+added_bytes old new f k v is absent added =
+    ap bytes_kept added ∙ kept-added old f (not_found old f.0 absent) ∙ ap (λ (x : Found). bytes_kept old + size x) is
 
 -- ---- one in another's place
 

@@ -69,12 +69,31 @@ impl Recalled {
         }
     }
 
-    /// Keeps what was found at a key, where it is small and there is memory.
+    /// Keeps what was found at a key, where it is small and there is memory. What is kept for the
+    /// key already isn't replaced. It costs one search of what is kept.
     pub fn keep(&mut self, key: &[u8], value: Option<&[u8]>)
         ensures { KeepsOne (findings self.old) key.now (option_copied value.entry)
             (findings self.new) }
     {
-        let _ = self.store(key, value);
+        if is_small(key, value) {
+            let _ = self.add(key, value);
+        }
+    }
+
+    // Keeps a small value for a key, where nothing is kept for it and there is memory.
+    fn add(&mut self, key: &[u8], value: Option<&[u8]>) -> Result<(), AllocError>
+        requires key { length key.now ≤ key_limit }
+        requires value { value_size (option_copied value) ≤ value_limit }
+        ensures { KeepsOne (findings self.old) key.now (option_copied value.entry)
+            (findings self.new) }
+    {
+        let finding = Finding::new(self.alloc, key, value)?;
+        let size = size_of(key, value);
+        self.make_room(size);
+        if self.found.insert(finding)? {
+            self.taken += size;
+        }
+        Ok(())
     }
 
     // Keeps what was written at a key, where it is small and there is memory, and else nothing
