@@ -1,11 +1,11 @@
 -- What is kept after a key was put or removed.
-use Rattle.std.proofs.Common.{◌≡◌, ◌⊎◌, ℕ, zero, suc, Bool, true, false, cond, List, [], ◌∷◌, ◌++◌, length, drop, get_or, ◌+◌, ◌<◌, inl, inr, refl, sym, ap, ◌∙◌, subst, Ordering, Less, Equal, Greater}
-use Rattle.std.specs.Prelude.{Option, Some, None, IfSome, IsSome, is_some, ⊤}
-use Rattle.std.specs.BTreeMap.{BTreeMap, insert_entry, is_at}
-use Rattle.std.specs.BTreeMap.Range.{IsEntryInRange, IsRangeOf}
-use Rattle.std.specs.List.{slice_get}
+use Rattle.std.proofs.Common.{◌≡◌, ◌⊎◌, ℕ, zero, suc, Bool, true, false, cond, not, ◌||◌, List, [], ◌∷◌, ◌++◌, length, drop, get_or, ◌+◌, ◌<◌, inl, inr, refl, sym, ap, ◌∙◌, subst, Ordering, Less, Equal, Greater}
+use Rattle.std.specs.Prelude.{Option, Some, None, IfSome, IsSome, is_some}
+use Rattle.std.specs.BTreeMap.{is_at}
+use Rattle.std.specs.BTreeSet.{BTreeSet, insert_key, replace_key, IsKeyInRange, IsKeyRangeOf}
+use Rattle.std.specs.List.{find, list_any, slice_get}
 use Rattle.std.specs.declared.ops.Bound.TheVariants.{Included, Unbounded}
-use Rattle.std.specs.Map.{lookup, lookup_key, remove_entry}
+use Rattle.std.specs.Set.{remove_key}
 use Rattle.std.specs.Ordering.{is_eq, is_gt, match_ordering, ordering_reverse}
 use Rattle.std.specs.Option.{option_map}
 use Rattle.std.proofs.lemmas.List.{append-nil}
@@ -14,9 +14,9 @@ use Rattle.bd_keys.specs.Keys.{key_cmp}
 use Rattle.bd_keys.proofs.Order.{key_cmp-front}
 use Rattle.bd_message.specs.Effect.{act, acts, begins, no_nodes, rest, same_key}
 use Rattle.bd_message.specs.declared.message.Message.{Message}
-use Rattle.bd_message.proofs.Finds.{same_key-refl, ties_same, tied, begins-is, begins-append, not_both, acts_more}
+use Rattle.bd_message.proofs.Finds.{ties_same, tied, begins-is, begins-append, not_both, acts_more}
 use Rattle.bd_message.proofs.Prefixes.{joined_other}
-use Rattle.bd_recall.specs.Kept.{Found, Findings, kept_for, KeepsFewer, KeepsOthers, KeepsInstead, KeepsWritten}
+use Rattle.bd_recall.specs.Kept.{Found, Findings, kept_for, KeepsFewer, KeepsOthers, KeepsOne, KeepsInstead, KeepsWritten}
 
 -- whether what was found was found at a key
 abbrev pub at_key : List ℕ → Found → Bool
@@ -24,23 +24,31 @@ at_key k = is_at (λ f. key_cmp k f.0)
 
 -- what is found in a table at a key
 abbrev pub found_in : Findings → List ℕ → Option Found
-found_in fs k = lookup_key (at_key k) fs
+found_in fs k = find (at_key k) fs
 
--- a table with what was found put in
+-- a table with what was found added, where nothing is found at its key
+abbrev pub add_in : Findings → Found → Findings
+add_in fs f = insert_key (λ (a b : Found). key_cmp a.0 b.0) fs f
+
+-- a table with what was found put in, in place of what is found at its key
 abbrev pub put_in : Findings → Found → Findings
-put_in fs f = insert_entry (λ (a b : Found). key_cmp a.0 b.0) fs f tt
+put_in fs f = replace_key (λ (a b : Found). key_cmp a.0 b.0) fs f
 
 pub same_order : (o : Ordering) → is_eq o ≡ true → o ≡ Equal
 same_order Less h = cc
 same_order Equal h = refl
 same_order Greater h = cc
 
--- a key that is found has an entry
-found_alike : (fs : Findings) (k : List ℕ) → is_some (found_in fs k) ≡ is_some (lookup (at_key k) fs)
+pub turned : (b : Bool) → not b ≡ true → b ≡ false
+turned true h = cc
+turned false h = refl
+
+-- a key is found where it stands in the table
+found_alike : (fs : Findings) (k : List ℕ) → is_some (found_in fs k) ≡ list_any (at_key k) fs
 found_alike [] k = refl
-found_alike (e ∷ fs) k = by (is_eq (key_cmp k e.0.0)) (found_alike fs k)
+found_alike (e ∷ fs) k = by (is_eq (key_cmp k e.0)) (found_alike fs k)
   where
-    by : (b : Bool) → is_some (found_in fs k) ≡ is_some (lookup (at_key k) fs) → is_some (cond b (Some e.0) (found_in fs k)) ≡ is_some (cond b (Some e.1) (lookup (at_key k) fs))
+    by : (b : Bool) → is_some (found_in fs k) ≡ list_any (at_key k) fs → is_some (cond b (Some e) (found_in fs k)) ≡ (b || list_any (at_key k) fs)
     by true later = refl
     by false later = later
 
@@ -48,41 +56,55 @@ none_of : {A : Type 0} (o : Option A) → is_some o ≡ false → o ≡ None
 none_of None h = refl
 none_of (Some x) h = cc
 
--- nothing is kept where nothing is found
-pub not_found : (fs : Findings) (k : List ℕ) → lookup (at_key k) fs ≡ None → found_in fs k ≡ None
-not_found fs k none = none_of (found_in fs k) (found_alike fs k ∙ ap is_some none)
-
-pub not_kept : (fs : Findings) (k : List ℕ) → kept_for fs k ≡ None → found_in fs k ≡ None
-not_kept fs k none = by (found_in fs k) refl
-  where
-    by : (o : Option Found) → found_in fs k ≡ o → found_in fs k ≡ None
-    by None is = is
-    by (Some f) is = let e : Some f.1 ≡ None = ap (option_map (λ (x : Found). x.1)) (sym is) ∙ none in cc
+-- nothing is found at a key that doesn't stand in the table
+pub not_found : (fs : Findings) (k : List ℕ) → list_any (at_key k) fs ≡ false → found_in fs k ≡ None
+not_found fs k none = none_of (found_in fs k) (found_alike fs k ∙ none)
 
 -- ---- one put in
 
-found_put : (fs : Findings) (f : Found) (q : List ℕ) → found_in fs f.0 ≡ None → found_in (put_in fs f) q ≡ cond (is_eq (key_cmp q f.0)) (Some f) (found_in fs q)
-found_put [] f q none = refl
-found_put (e ∷ fs) f q none = by (key_cmp f.0 e.0.0) refl (found_put fs f q) none
-  where
-    -- the key that is put in isn't the one that stands here
-    later_on : key_cmp f.0 e.0.0 ≡ Greater → (b : Bool) → is_eq (key_cmp q f.0) ≡ b → found_in (put_in fs f) q ≡ cond b (Some f) (found_in fs q)
-        → cond (is_eq (key_cmp q e.0.0)) (Some e.0) (found_in (put_in fs f) q) ≡ cond b (Some f) (cond (is_eq (key_cmp q e.0.0)) (Some e.0) (found_in fs q))
-    later_on is true same later =
-        let key : q ≡ f.0 = tied q f.0 (same_order (key_cmp q f.0) same) in
-        ap (λ (b : Bool). cond b (Some e.0) (found_in (put_in fs f) q)) (ap (λ (l : List ℕ). is_eq (key_cmp l e.0.0)) key ∙ ap is_eq is) ∙ later
-    later_on is false other later = ap (cond (is_eq (key_cmp q e.0.0)) (Some e.0)) later
+-- at each key is found what was found before, or what is put in
+module _ (f : Found) (q : List ℕ) where
+  -- the key that is put in isn't the one that stands first
+  above : (e : Found) → key_cmp f.0 e.0 ≡ Greater → (now was : Option Found) (b : Bool) → is_eq (key_cmp q f.0) ≡ b → now ≡ cond b (Some f) was
+      → cond (is_eq (key_cmp q e.0)) (Some e) now ≡ cond b (Some f) (cond (is_eq (key_cmp q e.0)) (Some e) was)
+  above e is now was true same later =
+      let key : q ≡ f.0 = tied q f.0 (same_order (key_cmp q f.0) same) in
+      ap (λ (b : Bool). cond b (Some e) now) (ap (λ (l : List ℕ). is_eq (key_cmp l e.0)) key ∙ ap is_eq is) ∙ later
+  above e is now was false other later = ap (cond (is_eq (key_cmp q e.0)) (Some e)) later
 
-    by : (o : Ordering) → key_cmp f.0 e.0.0 ≡ o → (found_in fs f.0 ≡ None → found_in (put_in fs f) q ≡ cond (is_eq (key_cmp q f.0)) (Some f) (found_in fs q))
-        → cond (is_eq o) (Some e.0) (found_in fs f.0) ≡ None
-        → found_in (match_ordering o ((f, tt) ∷ e ∷ fs) ((e.0, tt) ∷ fs) (e ∷ put_in fs f)) q ≡ cond (is_eq (key_cmp q f.0)) (Some f) (cond (is_eq (key_cmp q e.0.0)) (Some e.0) (found_in fs q))
-    by Less is later none = refl
-    by Equal is later none = cc
-    by Greater is later none = later_on is (is_eq (key_cmp q f.0)) refl (later none)
+  -- it is the one that stands first
+  first : (e : Found) → key_cmp f.0 e.0 ≡ Equal → (was : Option Found) (b : Bool) → is_eq (key_cmp q f.0) ≡ b
+      → cond b (Some f) was ≡ cond b (Some f) (cond (is_eq (key_cmp q e.0)) (Some e) was)
+  first e is was true same = refl
+  first e is was false other =
+      let key : f.0 ≡ e.0 = tied f.0 e.0 is in
+      sym (ap (λ (b : Bool). cond b (Some e) was) (ap (λ (l : List ℕ). is_eq (key_cmp q l)) (sym key) ∙ other))
 
--- after a value was put for a key that had none
-pub kept_put : (old : Findings) (k : List ℕ) (v : Option (List ℕ)) → found_in old k ≡ None → KeepsInstead old k v (put_in old (k, v))
-kept_put old k v none q = by (is_eq (key_cmp q k)) refl (found_put old (k, v) q none)
+  found_put : (fs : Findings) → found_in (put_in fs f) q ≡ cond (is_eq (key_cmp q f.0)) (Some f) (found_in fs q)
+  found_put [] = refl
+  found_put (e ∷ fs) = by (key_cmp f.0 e.0) refl (found_put fs)
+    where
+      by : (o : Ordering) → key_cmp f.0 e.0 ≡ o → found_in (put_in fs f) q ≡ cond (is_eq (key_cmp q f.0)) (Some f) (found_in fs q)
+          → found_in (match_ordering o (f ∷ e ∷ fs) (f ∷ fs) (e ∷ put_in fs f)) q ≡ cond (is_eq (key_cmp q f.0)) (Some f) (cond (is_eq (key_cmp q e.0)) (Some e) (found_in fs q))
+      by Less is later = refl
+      by Equal is later = first e is (found_in fs q) (is_eq (key_cmp q f.0)) refl
+      by Greater is later = above e is (found_in (put_in fs f) q) (found_in fs q) (is_eq (key_cmp q f.0)) refl later
+
+  found_added : (fs : Findings) → (found_in (add_in fs f) q ≡ found_in fs q) ⊎ (found_in (add_in fs f) q ≡ cond (is_eq (key_cmp q f.0)) (Some f) (found_in fs q))
+  found_added [] = inr refl
+  found_added (e ∷ fs) = by (key_cmp f.0 e.0) refl (found_added fs)
+    where
+      by : (o : Ordering) → key_cmp f.0 e.0 ≡ o → (found_in (add_in fs f) q ≡ found_in fs q) ⊎ (found_in (add_in fs f) q ≡ cond (is_eq (key_cmp q f.0)) (Some f) (found_in fs q))
+          → (found_in (match_ordering o (f ∷ e ∷ fs) (e ∷ fs) (e ∷ add_in fs f)) q ≡ cond (is_eq (key_cmp q e.0)) (Some e) (found_in fs q))
+          ⊎ (found_in (match_ordering o (f ∷ e ∷ fs) (e ∷ fs) (e ∷ add_in fs f)) q ≡ cond (is_eq (key_cmp q f.0)) (Some f) (cond (is_eq (key_cmp q e.0)) (Some e) (found_in fs q)))
+      by Less is later = inr refl
+      by Equal is later = inl refl
+      by Greater is (inl stays) = inl (ap (cond (is_eq (key_cmp q e.0)) (Some e)) stays)
+      by Greater is (inr later) = inr (above e is (found_in (add_in fs f) q) (found_in fs q) (is_eq (key_cmp q f.0)) refl later)
+
+-- after a value was put in
+kept_put : (old : Findings) (k : List ℕ) (v : Option (List ℕ)) → KeepsInstead old k v (put_in old (k, v))
+kept_put old k v q = by (is_eq (key_cmp q k)) refl (found_put (k, v) q old)
   where
     P : Option (List ℕ) → Type 0
     P found = ((kept_for old q ≡ Some found) × (same_key q k ≡ false)) ⊎ ((q ≡ k) × (found ≡ v))
@@ -97,21 +119,21 @@ kept_put old k v none q = by (is_eq (key_cmp q k)) refl (found_put old (k, v) q 
 
 -- ---- one removed
 
-found_other : (fs : Findings) (k q : List ℕ) → is_eq (key_cmp q k) ≡ false → found_in (remove_entry (at_key k) fs) q ≡ found_in fs q
+found_other : (fs : Findings) (k q : List ℕ) → is_eq (key_cmp q k) ≡ false → found_in (remove_key (at_key k) fs) q ≡ found_in fs q
 found_other [] k q other = refl
-found_other (e ∷ fs) k q other = by (is_eq (key_cmp k e.0.0)) refl (found_other fs k q other)
+found_other (e ∷ fs) k q other = by (is_eq (key_cmp k e.0)) refl (found_other fs k q other)
   where
     left : Findings
-    left = remove_entry (at_key k) fs
+    left = remove_key (at_key k) fs
 
-    by : (b : Bool) → is_eq (key_cmp k e.0.0) ≡ b → found_in left q ≡ found_in fs q → found_in (cond b fs (e ∷ left)) q ≡ cond (is_eq (key_cmp q e.0.0)) (Some e.0) (found_in fs q)
+    by : (b : Bool) → is_eq (key_cmp k e.0) ≡ b → found_in left q ≡ found_in fs q → found_in (cond b fs (e ∷ left)) q ≡ cond (is_eq (key_cmp q e.0)) (Some e) (found_in fs q)
     by true same later =
-        let key : k ≡ e.0.0 = tied k e.0.0 (same_order (key_cmp k e.0.0) same) in
-        sym (ap (λ (b : Bool). cond b (Some e.0) (found_in fs q)) (ap (λ (l : List ℕ). is_eq (key_cmp q l)) (sym key) ∙ other))
-    by false apart later = ap (cond (is_eq (key_cmp q e.0.0)) (Some e.0)) later
+        let key : k ≡ e.0 = tied k e.0 (same_order (key_cmp k e.0) same) in
+        sym (ap (λ (b : Bool). cond b (Some e) (found_in fs q)) (ap (λ (l : List ℕ). is_eq (key_cmp q l)) (sym key) ∙ other))
+    by false apart later = ap (cond (is_eq (key_cmp q e.0)) (Some e)) later
 
 -- after a key was removed
-pub kept_removed : (old new : Findings) (k : List ℕ) → new ≡ remove_entry (at_key k) old → lookup (at_key k) new ≡ None → KeepsOthers old k new
+pub kept_removed : (old new : Findings) (k : List ℕ) → new ≡ remove_key (at_key k) old → list_any (at_key k) new ≡ false → KeepsOthers old k new
 kept_removed old new k out none q = by (is_eq (key_cmp q k)) refl
   where
     P : Option (List ℕ) → Type 0
@@ -157,24 +179,37 @@ instead_after a b c k value fewer h q = each c q Has (λ found is. by found (if_
     by found (inl was) = inl (if_some (kept_for b q) (λ f. kept_for a q ≡ Some f) found was.0 (fewer q), was.1)
     by found (inr is) = inr is
 
--- where a key was forgotten, and others after it
-pub none_left : (a b c : Findings) (k : List ℕ) → KeepsOthers a k b → KeepsFewer b c → found_in c k ≡ None
-none_left a b c k others fewer = by (kept_for c k) refl (fewer k)
+-- one put in where some were forgotten before
+pub put_after : (a b c : Findings) (f : Found) (k : List ℕ) (v : Option (List ℕ)) → f ≡ (k, v) → KeepsFewer a b → c ≡ put_in b f → KeepsInstead a k v c
+put_after a b c f k v is fewer put =
+    let made : c ≡ put_in b (k, v) = put ∙ ap (put_in b) is in
+    instead_after a b c k v fewer (subst (KeepsInstead b k v) (sym made) (kept_put b k v))
+
+-- none put in where some were forgotten
+pub one_of_fewer : (a b : Findings) (k : List ℕ) (v : Option (List ℕ)) → KeepsFewer a b → KeepsOne a k v b
+one_of_fewer a b k v fewer q = each b q (λ found. (kept_for a q ≡ Some found) ⊎ ((q ≡ k) × (found ≡ v))) (λ found is.
+    inl (if_some (kept_for b q) (λ f. kept_for a q ≡ Some f) found is (fewer q)))
+
+-- one added where some were forgotten before
+pub added_after : (a b c : Findings) (f : Found) (k : List ℕ) (v : Option (List ℕ)) → f ≡ (k, v) → KeepsFewer a b → c ≡ add_in b f → KeepsOne a k v c
+added_after a b c f k v is fewer added q = by (found_added (k, v) q b)
   where
-    by : (o : Option (Option (List ℕ))) → kept_for c k ≡ o → IfSome o (λ found. kept_for b k ≡ Some found) → found_in c k ≡ None
-    by None is was = not_kept c k is
-    by (Some found) is was = absurd (not_both (same_key-refl k) ((if_some (kept_for b k) (λ f. (kept_for a k ≡ Some f) × (same_key k k ≡ false)) found was (others k)).1))
+    P : Option (List ℕ) → Type 0
+    P found = (kept_for a q ≡ Some found) ⊎ ((q ≡ k) × (found ≡ v))
 
-pub fewer_after : (a b c : Findings) (k : List ℕ) → KeepsOthers a k b → KeepsFewer b c → KeepsFewer a c
-fewer_after a b c k others fewer q = each c q (λ found. kept_for a q ≡ Some found) (λ found is.
-    let was : kept_for b q ≡ Some found = if_some (kept_for c q) (λ f. kept_for b q ≡ Some f) found is (fewer q) in
-    (if_some (kept_for b q) (λ f. (kept_for a q ≡ Some f) × (same_key q k ≡ false)) found was (others q)).0)
+    made : found_in c q ≡ found_in (add_in b (k, v)) q
+    made = ap (λ (fs : Findings). found_in fs q) (added ∙ ap (add_in b) is)
 
--- one put in where its key was forgotten before
-pub put_after : (a b c : Findings) (f : Found) (k : List ℕ) (v : Option (List ℕ)) → f ≡ (k, v) → KeepsOthers a f.0 b → KeepsFewer b c → KeepsInstead a k v (put_in c f)
-put_after a b c f k v is others fewer =
-    let forgot : KeepsOthers a k b = subst (λ (x : Found). KeepsOthers a x.0 b) is others in
-    subst (λ (x : Found). KeepsInstead a k v (put_in c x)) (sym is) (instead_after a c (put_in c (k, v)) k v (fewer_after a b c k forgot fewer) (kept_put c k v (none_left a b c k forgot fewer)))
+    shown : (o : Option Found) → found_in c q ≡ o → IfSome (option_map (λ (x : Found). x.1) o) P → IfSome (kept_for c q) P
+    shown o there h = subst (λ (o : Option Found). IfSome (option_map (λ (x : Found). x.1) o) P) (sym there) h
+
+    by : (found_in (add_in b (k, v)) q ≡ found_in b q) ⊎ (found_in (add_in b (k, v)) q ≡ cond (is_eq (key_cmp q k)) (Some (k, v)) (found_in b q)) → IfSome (kept_for c q) P
+    by (inl stays) = shown (found_in b q) (made ∙ stays) (one_of_fewer a b k v fewer q)
+    by (inr put) = to (is_eq (key_cmp q k)) refl put
+      where
+        to : (t : Bool) → is_eq (key_cmp q k) ≡ t → found_in (add_in b (k, v)) q ≡ cond t (Some (k, v)) (found_in b q) → IfSome (kept_for c q) P
+        to true same put = shown (Some (k, v)) (made ∙ put) (inr (tied q k (same_order (key_cmp q k) same), refl))
+        to false other put = shown (found_in b q) (made ∙ put) (one_of_fewer a b k v fewer q)
 
 -- ---- messages
 
@@ -260,26 +295,26 @@ has_value None there = cc
 has_value (Some f) there = refl
 
 -- the table from a prefix on
-module _ (m : BTreeMap Found ⊤) (p : Found) (r : Findings) (range : IsRangeOf (λ (a b : Found). key_cmp a.0 b.0) (Included p) Unbounded m r) where
-  first_is : (e : Found × ⊤) (t : Findings) → r ≡ e ∷ t → IsEntryInRange (λ (a b : Found). key_cmp a.0 b.0) (Included p) Unbounded m e
-  first_is e t is = subst (λ (l : Findings). IfSome (slice_get l 0) (IsEntryInRange (λ (a b : Found). key_cmp a.0 b.0) (Included p) Unbounded m)) is range.1
+module _ (m : BTreeSet Found) (p : Found) (r : Findings) (range : IsKeyRangeOf (λ (a b : Found). key_cmp a.0 b.0) (Included p) Unbounded m r) where
+  first_is : (e : Found) (t : Findings) → r ≡ e ∷ t → IsKeyInRange (λ (a b : Found). key_cmp a.0 b.0) (Included p) Unbounded m e
+  first_is e t is = subst (λ (l : Findings). IfSome (slice_get l 0) (IsKeyInRange (λ (a b : Found). key_cmp a.0 b.0) (Included p) Unbounded m)) is range.1
 
   -- its first key is kept
-  pub first_kept : (e : Found × ⊤) (t : Findings) → r ≡ e ∷ t → (k : List ℕ) → k ≡ e.0.0 → IsSome (kept_for m.entries k)
+  pub first_kept : (e : Found) (t : Findings) → r ≡ e ∷ t → (k : List ℕ) → k ≡ e.0 → IsSome (kept_for m.keys k)
   first_kept e t is k same =
-      has_value (found_in m.entries k) (ap (λ (l : List ℕ). is_some (found_in m.entries l)) same ∙ found_alike m.entries e.0.0 ∙ ap is_some (first_is e t is).1)
+      has_value (found_in m.keys k) (ap (λ (l : List ℕ). is_some (found_in m.keys l)) same ∙ found_alike m.keys e.0 ∙ (first_is e t is).1)
 
   -- where that doesn't begin with it, none does
-  pub first_outside : (e : Found × ⊤) (t : Findings) → r ≡ e ∷ t → begins e.0.0 p.0 ≡ false
-      → (k : List ℕ) → IfSome (kept_for m.entries k) (λ _. begins k p.0 ≡ false)
+  pub first_outside : (e : Found) (t : Findings) → r ≡ e ∷ t → begins e.0 p.0 ≡ false
+      → (k : List ℕ) → IfSome (kept_for m.keys k) (λ _. begins k p.0 ≡ false)
   first_outside e t is out =
-      none_within m.entries p.0 (λ q from there inside.
-      let least : is_gt (key_cmp e.0.0 q) ≡ false = subst (λ (l : Findings). IfSome (slice_get l 0) (λ x. is_gt (key_cmp x.0.0 q) ≡ false)) is (range.2 (q, None) (from, tt) (sym (found_alike m.entries q) ∙ there)) in
-      not_both (between p.0 e.0.0 q (first_is e t is).0.0 least inside) out)
+      none_within m.keys p.0 (λ q from there inside.
+      let least : is_gt (key_cmp e.0 q) ≡ false = subst (λ (l : Findings). IfSome (slice_get l 0) (λ x. is_gt (key_cmp x.0 q) ≡ false)) is (range.2 (q, None) (from, tt) (sym (found_alike m.keys q) ∙ there)) in
+      not_both (between p.0 e.0 q (first_is e t is).0.0 least inside) out)
 
   -- nor where it is empty
-  pub none_outside : r ≡ [] → (k : List ℕ) → IfSome (kept_for m.entries k) (λ _. begins k p.0 ≡ false)
+  pub none_outside : r ≡ [] → (k : List ℕ) → IfSome (kept_for m.keys k) (λ _. begins k p.0 ≡ false)
   none_outside is =
-      none_within m.entries p.0 (λ q from there inside.
-      let none : lookup (at_key q) m.entries ≡ None = range.5 is (q, None) (from, tt) in
-      not_both (sym (found_alike m.entries q) ∙ there) (ap is_some none))
+      none_within m.keys p.0 (λ q from there inside.
+      let none : list_any (at_key q) m.keys ≡ false = range.5 is (q, None) (from, tt) in
+      not_both (sym (found_alike m.keys q) ∙ there) none)

@@ -1,7 +1,7 @@
 -- What is kept of look-ups.
 use Rattle.std.specs.Prelude.{◌≡◌, ◌⊎◌, ℕ, Bool, not, false, ◌&&◌, List, [], Option, None, Some, IfSome}
 use Rattle.std.specs.BTreeMap.{is_at}
-use Rattle.std.specs.Map.{lookup_key}
+use Rattle.std.specs.List.{find}
 use Rattle.std.specs.Option.{option_map}
 use Rattle.bd_keys.specs.Keys.{IsKey, key_cmp}
 use Rattle.bd_message.specs.KeyMaps.{At}
@@ -12,11 +12,11 @@ use Rattle.bd_recall.specs.declared.recalled.Recalled.{Recalled}
 
 -- what is kept
 abbrev pub findings : Recalled → Findings
-findings r = r.found.entries
+findings r = r.found.keys
 
 -- what is kept for a key, that it was found with a value or with none
 abbrev pub kept_for : Findings → List ℕ → Option (Option (List ℕ))
-kept_for fs k = option_map (λ f. f.1) (lookup_key (is_at (λ f. key_cmp k f.0)) fs)
+kept_for fs k = option_map (λ f. f.1) (find (is_at (λ f. key_cmp k f.0)) fs)
 
 -- what is kept is what stands there
 abbrev pub IsKept : At → Findings → Type 0

@@ -1,5 +1,5 @@
 -- How much is kept of look-ups.
-use Rattle.std.specs.Prelude.{ℕ, ◌+◌, List, length, Option, None, Some, nat_lt, if◌then◌else◌, ⊤}
+use Rattle.std.specs.Prelude.{ℕ, ◌+◌, List, length, Option, None, Some, nat_lt, if◌then◌else◌}
 use Rattle.std.specs.List.{sum_by}
 use Rattle.std.specs.declared.alloc.Global.{Global}
 use Rattle.std.specs.declared.vec.Vec.{Vec}
@@ -10,7 +10,7 @@ Found = List ℕ × Option (List ℕ)
 
 -- what was found at keys, in their order
 abbrev pub Findings : Type 0
-Findings = List (Found × ⊤)
+Findings = List Found
 
 -- how many bytes all that is kept counts at most
 abbrev pub bytes_limit : ℕ
@@ -51,10 +51,10 @@ bytes_of None = None
 bytes_of (Some value) = Some value.items
 
 -- how many bytes what was kept for a key counts, none where nothing was
-abbrev pub size_before : Option (Found × ⊤) → ℕ
+abbrev pub size_before : Option Found → ℕ
 size_before None = 0
-size_before (Some entry) = entry_size entry.0.0 entry.0.1
+size_before (Some found) = entry_size found.0 found.1
 
 -- how many bytes all that is kept counts
 abbrev pub bytes_kept : Findings → ℕ
-bytes_kept fs = sum_by (λ e. entry_size e.0.0 e.0.1) fs
+bytes_kept fs = sum_by (λ f. entry_size f.0 f.1) fs

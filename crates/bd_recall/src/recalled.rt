@@ -9,7 +9,7 @@ use crate::finding::Finding;
 use bd_limits::MAX_KEY;
 use bd_message::Message;
 use std::alloc::{AllocError, Global};
-use std::collections::BTreeMap;
+use std::collections::BTreeSet;
 
 // How many bytes all that is kept counts at most.
 const MAX_BYTES: usize = 8_388_608;
@@ -29,13 +29,14 @@ const FAR_BASE: usize = 96;
 /// What was found at keys when they were looked up, or was written there: for a key of at most 518
 /// bytes a value of at most 64 bytes, or none. What all of it counts is at most 8,388,608 bytes: an
 /// entry of at most 30 bytes, with its value's, counts 72, and another one 96 and its bytes. Where
-/// the next one would be more, it is emptied first. Where there is no memory, it keeps less.
+/// the next one would be more, it is emptied first, also where something is kept for the next
+/// one's key. Where there is no memory, it keeps less.
 #[derive(Drop)]
 pub struct Recalled {
     alloc: Global,
-    found: BTreeMap<Finding, ()>,
+    found: BTreeSet<Finding>,
     taken: usize,
-    ghost counted: { bytes_kept found.entries ≡ taken },
+    ghost counted: { bytes_kept found.keys ≡ taken },
     ghost small: { taken ≤ bytes_limit },
 }
 
@@ -51,7 +52,7 @@ impl Recalled {
     {
         Recalled {
             alloc,
-            found: BTreeMap::new(alloc),
+            found: BTreeSet::new(alloc),
             taken: 0,
         }
     }
@@ -62,18 +63,37 @@ impl Recalled {
             option_map bytes_of found ≡ kept_for (findings self.now) key.now) }
     {
         let asked = Finding::new(self.alloc, key, None)?;
-        match self.found.get_key_value(&asked) {
+        match self.found.get(&asked) {
             None => Ok(None),
-            Some((found, _)) => Ok(Some(copied(self.alloc, found.value())?)),
+            Some(found) => Ok(Some(copied(self.alloc, found.value())?)),
         }
     }
 
-    /// Keeps what was found at a key, where it is small and there is memory.
+    /// Keeps what was found at a key, where it is small and there is memory. What is kept for the
+    /// key already isn't replaced. It costs one search of what is kept.
     pub fn keep(&mut self, key: &[u8], value: Option<&[u8]>)
         ensures { KeepsOne (findings self.old) key.now (option_copied value.entry)
             (findings self.new) }
     {
-        let _ = self.store(key, value);
+        if is_small(key, value) {
+            let _ = self.add(key, value);
+        }
+    }
+
+    // Keeps a small value for a key, where nothing is kept for it and there is memory.
+    fn add(&mut self, key: &[u8], value: Option<&[u8]>) -> Result<(), AllocError>
+        requires key { length key.now ≤ key_limit }
+        requires value { value_size (option_copied value) ≤ value_limit }
+        ensures { KeepsOne (findings self.old) key.now (option_copied value.entry)
+            (findings self.new) }
+    {
+        let finding = Finding::new(self.alloc, key, value)?;
+        let size = size_of(key, value);
+        self.make_room(size);
+        if self.found.insert(finding)? {
+            self.taken += size;
+        }
+        Ok(())
     }
 
     // Keeps what was written at a key, where it is small and there is memory, and else nothing
@@ -87,17 +107,17 @@ impl Recalled {
         }
     }
 
-    // Keeps a value for a key, and says whether it does.
+    // Keeps a value for a key in place of what is kept for it, and says whether it does.
     fn store(&mut self, key: &[u8], value: Option<&[u8]>) -> bool
         ensures stored { result ≡ true → KeepsInstead (findings self.old) key.now
             (option_copied value.entry) (findings self.new) }
         ensures fewer { result ≡ false → KeepsFewer (findings self.old) (findings self.new) }
     {
-        is_small(key, value) && self.insert(key, value).is_ok()
+        is_small(key, value) && self.put(key, value).is_ok()
     }
 
-    // Keeps a small value for a key, where there is memory.
-    fn insert(&mut self, key: &[u8], value: Option<&[u8]>) -> Result<(), AllocError>
+    // Keeps a small value for a key in place of what is kept for it, where there is memory.
+    fn put(&mut self, key: &[u8], value: Option<&[u8]>) -> Result<(), AllocError>
         requires key { length key.now ≤ key_limit }
         requires value { value_size (option_copied value) ≤ value_limit }
         ensures stored { OnOk result (KeepsInstead (findings self.old) key.now
@@ -105,11 +125,11 @@ impl Recalled {
         ensures fewer { OnErr result (KeepsFewer (findings self.old) (findings self.new)) }
     {
         let finding = Finding::new(self.alloc, key, value)?;
-        self.take_out(&finding);
         let size = size_of(key, value);
         self.make_room(size);
-        self.found.insert(finding, ())?;
+        let before = self.found.replace(finding)?;
         self.taken += size;
+        self.taken -= size_before(&before);
         Ok(())
     }
 
@@ -187,7 +207,7 @@ impl Recalled {
     {
         let front = prefix.key();
         match self.found.range(prefix..).next() {
-            Some((found, _)) if found.key().starts_with(front) => {
+            Some(found) if found.key().starts_with(front) => {
                 Ok(Some(Finding::new(self.alloc, found.key(), None)?))
             }
             _ => Ok(None),
@@ -210,7 +230,7 @@ impl Recalled {
         ensures fewer { IsSome (kept_for (findings self.old) asked.now.0)
             → length (findings self.new) < length (findings self.old) }
     {
-        let removed = self.found.remove_entry(asked);
+        let removed = self.found.take(asked);
         self.taken -= size_before(&removed);
     }
 
@@ -256,13 +276,13 @@ fn size_of(key: &[u8], value: Option<&[u8]>) -> usize
 }
 
 // How many bytes what was kept counts, none where nothing was.
-fn size_before(found: &Option<(Finding, ())>) -> usize
+fn size_before(found: &Option<Finding>) -> usize
     requires { size_before found.now ≤ bytes_limit }
     ensures { result ≡ size_before found.now }
 {
     match found {
         None => 0,
-        Some((found, _)) => size_of(found.key(), found.value()),
+        Some(found) => size_of(found.key(), found.value()),
     }
 }
 
