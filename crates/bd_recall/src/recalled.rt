@@ -69,8 +69,7 @@ impl Recalled {
         }
     }
 
-    /// Keeps what was found at a key, where it is small and there is memory. What is kept for the
-    /// key already isn't replaced. It costs one search of what is kept.
+    /// Keeps what was found at a key, where it is small and there is memory.
     pub fn keep(&mut self, key: &[u8], value: Option<&[u8]>)
         ensures { KeepsOne (findings self.old) key.now (option_copied value.entry)
             (findings self.new) }
@@ -80,7 +79,8 @@ impl Recalled {
         }
     }
 
-    // Keeps a small value for a key, where nothing is kept for it and there is memory.
+    // Keeps a small value for a key, where nothing is kept for it and there is memory: one search,
+    // as there is no other entry to take out.
     fn add(&mut self, key: &[u8], value: Option<&[u8]>) -> Result<(), AllocError>
         requires key { length key.now ≤ key_limit }
         requires value { value_size (option_copied value) ≤ value_limit }
