@@ -105,72 +105,73 @@ fn after_batch(alloc: Global, batch: [(&str, &str, &str); 5]) -> Result<Vec<u8>,
     Ok(text(alloc, &leaf)?)
 }
 
+/// Messages, the oldest first, and the leaf with four keys after them. A patch begins at offset 3.
+const BATCHES: [([(&str, &str, &str); 5], &str); 6] = [
+    (
+        [
+            ("put", "b", "9"),
+            ("put", "b", "8"),
+            ("del", "c", ""),
+            ("put", "d", "7"),
+            ("patch", "d", "x"),
+        ],
+        "a/x=1 a/y=2 b=8 d=7\0\0x ",
+    ),
+    (
+        [
+            ("put", "a/z", "5"),
+            ("cut", "a/", ""),
+            ("put", "a/y", "6"),
+            ("del", "a/y", ""),
+            ("put", "a/w", "7"),
+        ],
+        "a/w=7 b=3 c=4 ",
+    ),
+    (
+        [
+            ("cut", "", ""),
+            ("put", "b", "1"),
+            ("cut", "b", ""),
+            ("put", "c", "2"),
+            ("put", "a", "3"),
+        ],
+        "a=3 c=2 ",
+    ),
+    (
+        [
+            ("del", "b", ""),
+            ("patch", "b", "x"),
+            ("put", "e", "5"),
+            ("cut", "e", ""),
+            ("put", "0", "1"),
+        ],
+        "0=1 a/x=1 a/y=2 b=\0\0\0x c=4 ",
+    ),
+    (
+        [
+            ("put", "c", "9"),
+            ("put", "b", "8"),
+            ("put", "a/y", "7"),
+            ("put", "a/x", "6"),
+            ("put", "a", "5"),
+        ],
+        "a=5 a/x=6 a/y=7 b=8 c=9 ",
+    ),
+    (
+        [
+            ("patch", "a/y", "9"),
+            ("cut", "a/", "y"),
+            ("patch", "a/y", "8"),
+            ("patch", "a/x", "7"),
+            ("cut", "", "b"),
+        ],
+        "a/x=1\0\07 a/y=\0\0\08 ",
+    ),
+];
+
 #[test]
 fn batches_of_a_leaf(rt: HostRuntime) -> Result<(), Fail> {
-    // Messages, the oldest first, and the leaf after them. A patch begins at offset 3.
-    let rows = [
-        (
-            [
-                ("put", "b", "9"),
-                ("put", "b", "8"),
-                ("del", "c", ""),
-                ("put", "d", "7"),
-                ("patch", "d", "x"),
-            ],
-            "a/x=1 a/y=2 b=8 d=7\0\0x ",
-        ),
-        (
-            [
-                ("put", "a/z", "5"),
-                ("cut", "a/", ""),
-                ("put", "a/y", "6"),
-                ("del", "a/y", ""),
-                ("put", "a/w", "7"),
-            ],
-            "a/w=7 b=3 c=4 ",
-        ),
-        (
-            [
-                ("cut", "", ""),
-                ("put", "b", "1"),
-                ("cut", "b", ""),
-                ("put", "c", "2"),
-                ("put", "a", "3"),
-            ],
-            "a=3 c=2 ",
-        ),
-        (
-            [
-                ("del", "b", ""),
-                ("patch", "b", "x"),
-                ("put", "e", "5"),
-                ("cut", "e", ""),
-                ("put", "0", "1"),
-            ],
-            "0=1 a/x=1 a/y=2 b=\0\0\0x c=4 ",
-        ),
-        (
-            [
-                ("put", "c", "9"),
-                ("put", "b", "8"),
-                ("put", "a/y", "7"),
-                ("put", "a/x", "6"),
-                ("put", "a", "5"),
-            ],
-            "a=5 a/x=6 a/y=7 b=8 c=9 ",
-        ),
-        (
-            [
-                ("patch", "a/y", "9"),
-                ("cut", "a/", "y"),
-                ("patch", "a/y", "8"),
-                ("patch", "a/x", "7"),
-                ("cut", "", "b"),
-            ],
-            "a/x=1\0\07 a/y=\0\0\08 ",
-        ),
-    ];
-    for (batch, leaf) in rows {
+    for (batch, leaf) in BATCHES {
         let found = after_batch(rt.alloc(), batch)?;
         assert_eq!(rt; found.as_slice(), leaf.as_bytes(), "{leaf}");
     }
