@@ -24,7 +24,7 @@ use Rattle.bd_node.specs.Shape.{end_before, EachEdge, IsChild, IsEdge}
 use Rattle.bd_node.specs.Tables.{Table, IsTable, IsLower, IsSound}
 use Rattle.bd_node.proofs.Lookup.{each_first, each_second, each_both}
 use Rattle.bd_inner.specs.Clipping.{IsLongEdge, IsLongMessage, IsLong}
-use Rattle.bd_inner.specs.Compaction.{IsLoose}
+use Rattle.bd_node.specs.Compaction.{IsLoose}
 use Rattle.bd_resolve.specs.declared.following.Target.{Target}
 use Rattle.bd_resolve.specs.Following.{target_at, IsLowerTarget, IsShort, target_level, target_of}
 use Rattle.bd_copy.specs.Shortening.{edge_way, goto_way, IsKeptTarget, IsShortWay, target_child, target_source, sent_edge, IsShortEdge, IsSameEdge, sent_keys, IsShortMessage, IsSameMessage, CanShorten, IsShortened}

@@ -7,8 +7,9 @@ use Rattle.bd_node.specs.declared.node.Step.{Step}
 use Rattle.bd_node.specs.Nodes.{level_of, node_at}
 use Rattle.bd_node.specs.Meaning.{Nodes, at}
 use Rattle.bd_node.specs.Tables.{Table, IsNodeOf}
-use Rattle.bd_inner.specs.Compaction.{IsCompacted}
-use Rattle.bd_inner.specs.Exchanging.{exchanged, way_to}
+use Rattle.bd_node.specs.Compaction.{IsCompacted}
+use Rattle.bd_inner.specs.Exchanging.{way_to}
+use Rattle.bd_node.specs.Pushes.{exchanged}
 use Rattle.bd_node.specs.Parts.{IsEdgeAt}
 use Rattle.bd_path.specs.declared.fetching.Fetched.{Fetched}
 use Rattle.bd_path.specs.Fetching.{IsFetched}

@@ -13,7 +13,7 @@ use Rattle.bd_node.specs.Meaning.{Nodes, at}
 use Rattle.bd_node.specs.Tables.{Table, IsKept, IsLower}
 use Rattle.bd_node.specs.Parts.{edges_of, buffer_of}
 use Rattle.bd_inner.specs.Clipping.{IsLong}
-use Rattle.bd_inner.specs.Compaction.{IsLooseNode}
+use Rattle.bd_node.specs.Compaction.{IsLooseNode}
 use Rattle.bd_resolve.specs.declared.following.Target.{Target}
 use Rattle.bd_resolve.specs.Following.{IsLowerTarget, IsShort, target_level, target_of}
 

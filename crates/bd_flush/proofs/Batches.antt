@@ -19,15 +19,17 @@ use Rattle.bd_node.specs.Parts.{edges_of, buffer_of, end_at, IsEdgeAt}
 use Rattle.bd_inner.specs.declared.halves.Halves.{Halves}
 use Rattle.bd_inner.specs.Halves.{AreHalves}
 use Rattle.bd_inner.specs.Batches.{IsBatch}
-use Rattle.bd_inner.specs.Compaction.{IsCompacted}
-use Rattle.bd_inner.specs.Exchanging.{exchanged, FitsAt}
+use Rattle.bd_node.specs.Compaction.{IsCompacted}
+use Rattle.bd_inner.specs.Exchanging.{FitsAt}
+use Rattle.bd_node.specs.Pushes.{exchanged}
 use Rattle.bd_inner.proofs.Splitting.{few_wait}
 use Rattle.bd_inner.proofs.Fitting.{seen_fits}
 use Rattle.bd_inner.proofs.Compacting.{compacted_shape}
 use Rattle.bd_inner.proofs.Exchanged.{exchanged_shape}
 use Rattle.bd_leaf.specs.Leaves.{entries_size, IsReceived}
 use Rattle.bd_flush.specs.declared.children.Parts.{Parts}
-use Rattle.bd_flush.specs.Pushing.{seen_by, unseen, CanMoveSome, IsWaitedFor, IsEdgeBatch, IsRelieved, IsPushInto, IsPartedOver, IsPushedOver, AreLongParts, ArePushed}
+use Rattle.bd_flush.specs.Pushing.{unseen, CanMoveSome, IsWaitedFor, IsEdgeBatch, IsPushInto, IsPartedOver, IsPushedOver, AreLongParts, ArePushed}
+use Rattle.bd_node.specs.Pushes.{seen_by, IsRelieved}
 use Rattle.bd_flush.specs.Pushing.IsPushInto.{received, fitted, split}
 use Rattle.bd_flush.specs.Children.{IsSplitInto, IsLongIn, IsOver}
 use Rattle.bd_flush.specs.declared.children.Halving.{Halving}

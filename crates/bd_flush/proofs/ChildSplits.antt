@@ -25,13 +25,14 @@ use Rattle.bd_node.proofs.Lookup.{Agree, each_second, each_named, each_dropped, 
 use Rattle.bd_node.proofs.Meanings.{at-meets}
 use Rattle.bd_node.proofs.Sound.{sound-levelled, counted}
 use Rattle.bd_node.proofs.Edges.{lt_is, lt_isnt, least_over}
-use Rattle.bd_inner.specs.Compaction.{IsCompacted}
+use Rattle.bd_node.specs.Compaction.{IsCompacted}
 use Rattle.bd_inner.proofs.Fitting.{own_shape, seen_fits}
 use Rattle.bd_node.specs.Parts.{edges_of, buffer_of, end_at, IsEdgeAt}
 use Rattle.bd_inner.specs.declared.halves.Halves.{Halves}
 use Rattle.bd_inner.specs.Halves.{IsHalf, AreHalves}
 use Rattle.bd_inner.specs.Batches.{lifted}
-use Rattle.bd_inner.specs.Exchanging.{exchanged, IsKeyOf, FitsAt}
+use Rattle.bd_inner.specs.Exchanging.{IsKeyOf, FitsAt}
+use Rattle.bd_node.specs.Pushes.{exchanged}
 use Rattle.bd_inner.proofs.Compacting.{count_names, count_names-append, compacted_shape, compacted_level, compacted_meaning, compacted_times}
 use Rattle.bd_inner.proofs.Exchanged.{in_range, exchanged_shape, meaning_inside, meaning_outside, meaning_without}
 use Rattle.bd_node.proofs.Parts.{some_edge, inner_of}

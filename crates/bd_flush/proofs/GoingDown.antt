@@ -18,7 +18,8 @@ use Rattle.bd_node.specs.declared.node.Node.{Node}
 use Rattle.bd_node.specs.Nodes.{message_names}
 use Rattle.bd_node.specs.Shape.{IsShape}
 use Rattle.bd_node.proofs.Lookup.{each_weaker, each_both}
-use Rattle.bd_inner.specs.Batches.{lifted, IsLifted, CanMove, IsPlainFor, AreParts}
+use Rattle.bd_inner.specs.Batches.{lifted, IsLifted, CanMove, AreParts}
+use Rattle.bd_node.specs.Pushes.{IsPlainFor}
 use Rattle.bd_node.specs.Parts.{end_at, IsEdgeAt}
 use Rattle.bd_inner.proofs.CarvingOwned.{front_begins, least_begins}
 use Rattle.bd_inner.proofs.Fitting.{edge_lifted}

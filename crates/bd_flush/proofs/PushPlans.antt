@@ -25,9 +25,9 @@ use Rattle.bd_path.specs.Made.{IsWornFor}
 use Rattle.bd_path.proofs.Made.{no_ids, too_high}
 use Rattle.bd_node.specs.declared.node.Change.{Change}
 use Rattle.bd_node.specs.declared.node.Node.{Node}
-use Rattle.bd_inner.specs.Compaction.{IsCompacted}
+use Rattle.bd_node.specs.Compaction.{IsCompacted}
 use Rattle.bd_inner.specs.declared.halves.Halves.{Halves}
-use Rattle.bd_inner.specs.Exchanging.{exchanged}
+use Rattle.bd_node.specs.Pushes.{exchanged}
 use Rattle.bd_inner.proofs.Compacting.{compacted_level}
 use Rattle.bd_flush.specs.Splitting.{over_step}
 use Rattle.bd_inner.proofs.Named.{level_exchanged}

@@ -20,15 +20,18 @@ use Rattle.bd_node.proofs.Lookup.{Agree, each_first, each_second, each_both, eac
 use Rattle.bd_node.proofs.Appending.{shape_appended, level_appended, acts-plain, node_at-appended}
 use Rattle.bd_inner.specs.declared.batches.Batch.{Batch}
 use Rattle.bd_node.specs.Parts.{buffer_of, end_at, IsEdgeAt}
-use Rattle.bd_inner.specs.Batches.{goto_count, IsPlainFor, IsMoved}
-use Rattle.bd_inner.specs.Exchanging.{exchanged, IsKeyOf}
+use Rattle.bd_inner.specs.Batches.{goto_count, IsMoved}
+use Rattle.bd_node.specs.Pushes.{IsPlainFor}
+use Rattle.bd_inner.specs.Exchanging.{IsKeyOf}
+use Rattle.bd_node.specs.Pushes.{exchanged}
 use Rattle.bd_inner.proofs.Compacting.{count_names, count_names-append, compacted_meaning}
 use Rattle.bd_inner.proofs.Fitting.{own_shape}
 use Rattle.bd_inner.proofs.Exchanged.{exchanged_shape, pushed}
 use Rattle.bd_leaf.specs.Leaves.{IsReceived}
 use Rattle.bd_flush.specs.Children.{IsSplitInto}
 use Rattle.bd_flush.specs.GoingDown.{GoesDown}
-use Rattle.bd_flush.specs.Pushing.{seen_by, unseen, AllGoDown, IsWaitedFor, IsEdgeBatch, IsRelieved, IsPushInto}
+use Rattle.bd_flush.specs.Pushing.{unseen, AllGoDown, IsWaitedFor, IsEdgeBatch, IsPushInto}
+use Rattle.bd_node.specs.Pushes.{seen_by, IsRelieved}
 use Rattle.bd_flush.specs.Pushing.IsPushInto.{received, fitted, split}
 use Rattle.bd_flush.proofs.GoingDown.{parts_low}
 use Rattle.bd_path.proofs.ChildSteps.{has_below, has_child, has_old, IsChildChange, IsChildChangeOf}

@@ -8,12 +8,12 @@ use Rattle.bd_node.specs.declared.node.Step.{Step}
 use Rattle.bd_node.specs.Meaning.{Nodes}
 use Rattle.bd_node.specs.Private.{IsPrivate}
 use Rattle.bd_node.specs.Tables.{Table}
-use Rattle.bd_inner.specs.Compaction.{IsCompacted}
+use Rattle.bd_node.specs.Compaction.{IsCompacted}
 use Rattle.bd_node.specs.Parts.{edges_of, end_at, IsEdgeAt}
 use Rattle.bd_inner.specs.declared.halves.Halves.{Halves}
 use Rattle.bd_inner.specs.Halves.{AreHalves}
 use Rattle.bd_inner.specs.Batches.{lifted}
-use Rattle.bd_inner.specs.Exchanging.{exchanged}
+use Rattle.bd_node.specs.Pushes.{exchanged}
 use Rattle.bd_path.specs.declared.fetching.Fetched.{Fetched}
 use Rattle.bd_flush.specs.declared.children.Parts.{Parts}
 use Rattle.bd_flush.specs.declared.children.Halving.{Halving}

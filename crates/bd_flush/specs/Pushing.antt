@@ -13,12 +13,14 @@ use Rattle.bd_node.specs.Nodes.{level_of, buffer_size, appended}
 use Rattle.bd_node.specs.Shape.{IsLeaf}
 use Rattle.bd_node.specs.Tables.{Table}
 use Rattle.bd_inner.specs.declared.batches.Batch.{Batch}
-use Rattle.bd_inner.specs.Compaction.{IsCompacted}
+use Rattle.bd_node.specs.Compaction.{IsCompacted}
 use Rattle.bd_node.specs.Parts.{edges_of, buffer_of, end_at, IsEdgeAt}
 use Rattle.bd_inner.specs.declared.halves.Halves.{Halves}
 use Rattle.bd_inner.specs.Halves.{AreHalves}
-use Rattle.bd_inner.specs.Batches.{CanMove, IsPlainFor, SomeCanTouch, IsBatch}
-use Rattle.bd_inner.specs.Exchanging.{exchanged, way_to}
+use Rattle.bd_inner.specs.Batches.{CanMove, SomeCanTouch, IsBatch}
+use Rattle.bd_node.specs.Pushes.{IsPlainFor}
+use Rattle.bd_inner.specs.Exchanging.{way_to}
+use Rattle.bd_node.specs.Pushes.{exchanged}
 use Rattle.bd_leaf.specs.Leaves.{entries_size, IsReceived}
 use Rattle.bd_path.specs.declared.fetching.Fetched.{Fetched}
 use Rattle.bd_flush.specs.declared.children.Parts.{Parts}
@@ -33,10 +35,6 @@ use Rattle.bd_path.specs.Paths.{child_step, leaf_step}
 use Rattle.bd_flush.specs.GoingDown.{GoesDown}
 use Rattle.bd_flush.specs.Splitting.{over_step, IsPlanOf}
 use Rattle.bd_path.specs.Raising.{raise, IsRaisedOver, CannotRiseOver}
-
--- the edge after its child has got so many more messages
-abbrev pub seen_by : Edge → ℕ → Edge
-seen_by e count = record e { seen = e.seen + count }
 
 -- the messages that a node's edge hasn't seen
 abbrev pub unseen : Node → Edge → List Message
@@ -74,11 +72,6 @@ pub record CanPush (t : Table) (parent : Fetched) (place : ℕ) (child : Fetched
 pub record IsEdgeBatch (n : Node) (place : ℕ) (e : Edge) (b : Batch) : Type 0 where
   pub batch : IsBatch e (end_at n place) (unseen n e) b
   pub some : SomeCanTouch e (end_at n place) (take b.count (unseen n e))
-
--- the node after these messages have gone down its edge
-abbrev pub IsRelieved : Node → ℕ → Edge → ℕ → Node → Type 0
-IsRelieved n place e count parent =
-    IsCompacted (exchanged n place (seen_by e count ∷ [])) parent
 
 -- a node `n` and its child `m` after messages have gone down, and what is made: a leaf that would have
 -- more than 40,960 bytes is split

@@ -19,7 +19,8 @@ ghost use Rattle.bd_path.specs.Made.{IsMadeBy, IsWornFor};
 ghost use Rattle.bd_flush.specs.Children.{AreFamily};
 ghost use Rattle.bd_path.specs.Fetching.{IsContents};
 ghost use Rattle.bd_path.specs.Raising.{IsWayUp};
-ghost use Rattle.bd_flush.specs.Pushing.{seen_by, IsWaitedFor, CanMoveSome, CanPush, IsEdgeBatch, IsRelieved, IsPartedOver, IsPushedOver, ArePushed, IsPlanOver, IsPlan, IsSomePush, IsLongPush, IsHighPush};
+ghost use Rattle.bd_flush.specs.Pushing.{IsWaitedFor, CanMoveSome, CanPush, IsEdgeBatch, IsPartedOver, IsPushedOver, ArePushed, IsPlanOver, IsPlan, IsSomePush, IsLongPush, IsHighPush};
+ghost use Rattle.bd_node.specs.Pushes.{seen_by, IsRelieved};
 
 use crate::children::{Halving, Parts, child_step, over_halves, with_edge};
 use crate::splitting::{Plan, over_step};

@@ -20,7 +20,7 @@ use Rattle.bd_node.specs.Shape.{end_before, EachEdge, IsEdge, IsInner, IsShape}
 use Rattle.bd_node.proofs.Lookup.{count-cons, each_at}
 use Rattle.bd_node.proofs.Edges.{EachEdge-weaker, some_edge}
 use Rattle.bd_node.proofs.Appending.{some_has}
-use Rattle.bd_inner.specs.Compaction.{IsLoose, IsSwept, lowered}
+use Rattle.bd_node.specs.Compaction.{IsLoose, IsSwept, lowered}
 use Rattle.bd_node.specs.Parts.{edges_of, buffer_of}
 use Rattle.bd_inner.specs.Carving.{from_key, parted, parted_end, goto_edge, owned, carved, IsGotoAt, IsGotoEdge, IsEnd, IsGotoWay, IsCarved}
 use Rattle.bd_node.proofs.Touched.{touched_first, between, not_above_end}

@@ -16,7 +16,7 @@ use Rattle.bd_node.specs.declared.node.Node.TheVariants.{Inner}
 use Rattle.bd_node.specs.Nodes.{message_names, edge_names, edge_from, edge_at, child_at}
 use Rattle.bd_node.specs.Shape.{EachEdge, IsEdge, IsInner}
 use Rattle.bd_node.proofs.Edges.{IsRisingEdge}
-use Rattle.bd_inner.specs.Compaction.{IsLoose}
+use Rattle.bd_node.specs.Compaction.{IsLoose}
 use Rattle.bd_inner.specs.Clipping.{IsLongEdge, IsLongMessage, IsLong, IsStart, count_before, count_within, source_below, clipped_edge, inside_edge, AreClippedEdges, IsClipped}
 use Rattle.bd_inner.proofs.Compacting.{count_names, count_names-append}
 use Rattle.bd_inner.proofs.Splitting.{rising}

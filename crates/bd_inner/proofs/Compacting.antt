@@ -24,7 +24,7 @@ use Rattle.bd_node.proofs.Edges.{EachEdge-weaker, SomeEdge-weaker, some_edge}
 use Rattle.bd_node.proofs.Appending.{some_has}
 use Rattle.bd_node.specs.Keeping.{staying, stay_count}
 use Rattle.bd_node.proofs.Keeping.{count-yes, count-skip, stay_count-le, stay_count-within, StoodAt, stood_at}
-use Rattle.bd_inner.specs.Compaction.{IsLoose, IsLooseNode, IsMask, lowered, IsCompacted}
+use Rattle.bd_node.specs.Compaction.{IsLoose, IsLooseNode, IsMask, lowered, IsCompacted}
 
 -- ---- what the messages that stay do
 

@@ -20,9 +20,10 @@ use Rattle.bd_node.specs.Shape.{end_before, EachEdge, IsEdge, IsInner, IsShape}
 use Rattle.bd_node.proofs.Lookup.{each_second, each_dropped, acts-same, node_at-same}
 use Rattle.bd_node.proofs.Edges.{IsRisingEdge, least_over, lt_is, lt_isnt, less_lt}
 use Rattle.bd_node.proofs.Appending.{acts-append}
-use Rattle.bd_inner.specs.Compaction.{IsLoose, IsLooseNode, IsSwept}
+use Rattle.bd_node.specs.Compaction.{IsLoose, IsLooseNode, IsSwept}
 use Rattle.bd_node.specs.Parts.{edges_of, buffer_of, end_at, IsEdgeAt}
-use Rattle.bd_inner.specs.Exchanging.{exchanged, IsKeyOf, end_within, EachEdgeTo, FitsAt}
+use Rattle.bd_inner.specs.Exchanging.{IsKeyOf, end_within, EachEdgeTo, FitsAt}
+use Rattle.bd_node.specs.Pushes.{exchanged}
 use Rattle.bd_inner.specs.Batches.{IsMoved}
 use Rattle.bd_node.proofs.Parts.{at_of}
 use Rattle.bd_inner.proofs.Compacting.{compacted_shape}

@@ -10,7 +10,8 @@ use Rattle.bd_node.specs.declared.node.Edge.{Edge}
 use Rattle.bd_node.specs.declared.node.Node.{Node}
 use Rattle.bd_node.specs.declared.node.Node.TheVariants.{Leaf, Inner}
 use Rattle.bd_node.specs.Shape.{end_before, EachEdge, AreRising, IsChild, IsEdge, IsInner, IsShape}
-use Rattle.bd_inner.specs.Compaction.{IsFlat, IsLoose}
+use Rattle.bd_inner.specs.Exchanging.{IsFlat}
+use Rattle.bd_node.specs.Compaction.{IsLoose}
 use Rattle.bd_node.specs.Parts.{edges_of, buffer_of, end_at, IsEdgeAt}
 use Rattle.bd_inner.specs.Batches.{IsLifted}
 use Rattle.bd_inner.specs.Exchanging.{FitsAt, way_to}

@@ -20,7 +20,8 @@ use Rattle.bd_node.specs.declared.node.Edge.{Edge}
 use Rattle.bd_node.specs.Nodes.{message_names}
 use Rattle.bd_node.proofs.Lookup.{each_first, each_second, each_both}
 use Rattle.bd_node.proofs.Appending.{acts-append}
-use Rattle.bd_inner.specs.Batches.{goto_count, lifted, IsLifted, CanMove, IsPlainFor, IsMoved, SomeCanTouch, IsPart, AreParts, IsTooMuch, IsBatch}
+use Rattle.bd_inner.specs.Batches.{goto_count, lifted, IsLifted, CanMove, IsMoved, SomeCanTouch, IsPart, AreParts, IsTooMuch, IsBatch}
+use Rattle.bd_node.specs.Pushes.{IsPlainFor}
 use Rattle.bd_node.specs.Touching.{CanTouch}
 use Rattle.bd_inner.proofs.Compacting.{count_names, count_names-append}
 

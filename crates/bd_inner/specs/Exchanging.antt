@@ -8,12 +8,6 @@ use Rattle.bd_node.specs.declared.node.Node.TheVariants.{Leaf, Inner}
 use Rattle.bd_node.specs.Shape.{end_before, IsEdge}
 use Rattle.bd_node.specs.Parts.{edges_of, buffer_of, end_at, IsEdgeAt}
 
--- the node with these edges in place of the one at a place
-abbrev pub exchanged : Node → ℕ → List Edge → Node
-exchanged (Leaf entries) place list = Leaf entries
-exchanged (Inner level edges buffer) place list =
-    Inner level (take place edges ++ (list ++ drop (place + 1) edges)) buffer
-
 -- the key is one of the edge at a place
 abbrev pub IsKeyOf : Node → ℕ → Edge → List ℕ → Type 0
 IsKeyOf n place e k = InRange e.pivot (end_at n place) k
@@ -39,3 +33,11 @@ pub record FitsAt (n : Node) (place : ℕ) (e : Edge) (list : List Edge) : Type 
 abbrev pub way_to : Edge → ℕ → ℕ → Edge
 way_to e lift child =
     record { pivot = e.pivot; lift = lift; source = []; child = Some child; seen = e.seen }
+
+-- an edge that leaves nothing out and puts nothing in front, over a buffer of so many messages
+pub record IsFlat (buffered : ℕ) (e : Edge) : Type 0 where
+  pub pivot : length e.pivot ≤ key_limit
+  pub lift : e.lift ≡ 0
+  pub source : e.source ≡ []
+  pub child : IsChild e.child []
+  pub seen : e.seen ≤ buffered

@@ -1,4 +1,3 @@
-pub mod Compaction
 pub mod Halves
 pub mod Batches
 pub mod Exchanging

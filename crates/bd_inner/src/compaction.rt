@@ -3,7 +3,7 @@
 ghost use Rattle.std.specs.Prelude.{◌≡◌, [], Some, IfOk, map};
 ghost use Rattle.bd_node.specs.Keeping.{stay_count};
 ghost use Rattle.bd_node.specs.Shape.{AreRising, end_before};
-ghost use Rattle.bd_inner.specs.Compaction.{IsLoose, IsLooseNode, IsMask, lowered, IsSwept, IsCompacted};
+ghost use Rattle.bd_node.specs.Compaction.{IsLoose, IsLooseNode, IsMask, lowered, IsSwept, IsCompacted};
 
 use bd_node::{Edge, Edges, Items, Messages, Node, is_owned_pending};
 use std::alloc::{AllocError, Global};

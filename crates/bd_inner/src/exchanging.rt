@@ -6,9 +6,10 @@ ghost use Rattle.bd_limits.specs.Limits.{key_limit};
 ghost use Rattle.bd_keys.specs.Keys.{IsBelowEnd, IsLift};
 ghost use Rattle.bd_node.specs.declared.node.Edge.{Edge};
 ghost use Rattle.bd_node.specs.Shape.{IsShape};
-ghost use Rattle.bd_inner.specs.Compaction.{IsCompacted};
+ghost use Rattle.bd_node.specs.Compaction.{IsCompacted};
 ghost use Rattle.bd_node.specs.Parts.{edges_of, IsEdgeAt};
-ghost use Rattle.bd_inner.specs.Exchanging.{exchanged, FitsAt, way_to};
+ghost use Rattle.bd_inner.specs.Exchanging.{FitsAt, way_to};
+ghost use Rattle.bd_node.specs.Pushes.{exchanged};
 
 use crate::compaction::sweep;
 use bd_keys::{Bytes, lift};

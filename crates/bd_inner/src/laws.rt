@@ -15,11 +15,13 @@ ghost use Rattle.bd_node.specs.declared.node.Edge.{Edge};
 ghost use Rattle.bd_node.specs.declared.node.Node.{Node};
 ghost use Rattle.bd_node.specs.Nodes.{level_of, buffer_size, message_names, names, times, edge_of, child_at, edge_at, through, node_at};
 ghost use Rattle.bd_node.specs.Shape.{end_before, AreRising, IsInner, IsShape};
-ghost use Rattle.bd_inner.specs.Compaction.{IsFlat, IsLoose, IsLooseNode, IsCompacted};
+ghost use Rattle.bd_inner.specs.Exchanging.{IsFlat};
+ghost use Rattle.bd_node.specs.Compaction.{IsLoose, IsLooseNode, IsCompacted};
 ghost use Rattle.bd_node.specs.Parts.{edges_of, buffer_of, end_at, IsEdgeAt};
 ghost use Rattle.bd_inner.specs.Carving.{IsGotoWay, IsCarved};
 ghost use Rattle.bd_inner.specs.Batches.{IsLifted, IsMoved};
-ghost use Rattle.bd_inner.specs.Exchanging.{exchanged, IsKeyOf, FitsAt, way_to};
+ghost use Rattle.bd_inner.specs.Exchanging.{IsKeyOf, FitsAt, way_to};
+ghost use Rattle.bd_node.specs.Pushes.{exchanged};
 
 /// A compacted node is well-formed, of the same level, has what it had, is no larger, and names
 /// each node no more often.

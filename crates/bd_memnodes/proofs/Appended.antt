@@ -10,21 +10,8 @@ use Rattle.bd_node.specs.Meaning.{Nodes}
 use Rattle.bd_node.specs.Tables.{Table, IsSound}
 use Rattle.bd_node.specs.Stores.{FitsRoot}
 use Rattle.bd_node.specs.Steps.{after, append_step, grown, with_touched, HasGrown, IsCommitted}
-use Rattle.bd_node.proofs.Appending.{level_appended, append_sound}
-use Rattle.bd_node.proofs.Stepping.{given_at_root, given_other, after-some, after-none}
+use Rattle.bd_node.proofs.Appending.{level_appended, append_sound, is_appended}
 use Rattle.bd_memnodes.specs.Stored.{table_of}
-
--- the nodes with another root
-pub is_appended : (nodes new : Nodes) (t : Table) (root : Node) (list : List Message) → IsSound nodes t → ((i : ℕ) → new i ≡ cond (eqb t.root i) (Some (appended root list)) (nodes i)) → new ≡ after nodes t (append_step t root list)
-is_appended nodes new t root list s is = λ j id.
-    (let each : (i : ℕ) → new i ≡ after nodes t (append_step t root list) i = λ i.
-    elim (cases_eq t.root i) [
-      | inl same ↦ is i ∙ cond-true (eqb t.root i) (Some (appended root list)) (nodes i) (eq-eqb t.root i same)
-          ∙ sym (subst (λ (k : ℕ). after nodes t (append_step t root list) k ≡ Some (appended root list)) same
-          (after-some nodes t (append_step t root list) t.root (appended root list) (given_at_root t (appended root list) s.table)))
-      | inr other ↦ is i ∙ cond-false (eqb t.root i) (Some (appended root list)) (nodes i) (ne_eqb t.root i other)
-          ∙ sym (after-none nodes t (append_step t root list) i (given_other t (appended root list) i (λ e. other (sym e))))
-    ] in each id) j
 
 -- no level changes
 same_levels : (nodes new : Nodes) (t : Table) (root : Node) (list : List Message) → nodes t.root ≡ Some root → ((i : ℕ) → new i ≡ cond (eqb t.root i) (Some (appended root list)) (nodes i))

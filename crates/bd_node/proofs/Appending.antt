@@ -1,10 +1,10 @@
 -- Messages put after those that wait in a node.
-use Rattle.std.proofs.Common.{◌≡◌, ℕ, zero, suc, ◌+◌, ◌-◌, ◌<◌, ◌≤◌, true, false, not, List, [], ◌∷◌, ◌++◌, length, drop, refl, sym, ap, subst, ◌∙◌, Option, Some, arith, inl, inr, length-append}
+use Rattle.std.proofs.Common.{cond, eqb, ◌≡◌, ℕ, zero, suc, ◌+◌, ◌-◌, ◌<◌, ◌≤◌, true, false, not, List, [], ◌∷◌, ◌++◌, length, drop, refl, sym, ap, subst, ◌∙◌, Option, Some, arith, inl, inr, length-append}
 use Rattle.std.specs.Prelude.{slice_get}
 use Rattle.std.specs.List.{AllByRecursion, flat_map, sum_by}
 use Rattle.std.specs.Ordering.{is_lt}
 use Rattle.std.specs.Prelude.{count_by, ◌==◌}
-use Rattle.std.proofs.lemmas.Bool.{and_from, cases_lt, cases_eq}
+use Rattle.std.proofs.lemmas.Bool.{and_from, cases_lt, cases_eq, cond-true, cond-false, eq-eqb, ne_eqb}
 use Rattle.std.proofs.lemmas.Option.{same_Some}
 use Rattle.std.proofs.lemmas.List.{drop-append-le}
 use Rattle.std.proofs.lemmas.List.Sums.{sum_by-append}
@@ -255,3 +255,15 @@ append-meaning nodes t n list new u s there fits c root k key =
     ∙ node_at-appended (at nodes) n list k own.shape (omega arith)
     ∙ acts-plain (at nodes) list k (node_at (at nodes) n k) plain
     ∙ ap (λ v. acts no_nodes list k v) (sym ((at-meets nodes (sound-levelled nodes t s)).each t.root n there k ∙ node_has-key (at nodes) n k key))
+
+-- the nodes with another root
+pub is_appended : (nodes new : Nodes) (t : Table) (root : Node) (list : List Message) → IsSound nodes t → ((i : ℕ) → new i ≡ cond (eqb t.root i) (Some (appended root list)) (nodes i)) → new ≡ after nodes t (append_step t root list)
+is_appended nodes new t root list s is = λ j id.
+    (let each : (i : ℕ) → new i ≡ after nodes t (append_step t root list) i = λ i.
+    elim (cases_eq t.root i) [
+      | inl same ↦ is i ∙ cond-true (eqb t.root i) (Some (appended root list)) (nodes i) (eq-eqb t.root i same)
+          ∙ sym (subst (λ (k : ℕ). after nodes t (append_step t root list) k ≡ Some (appended root list)) same
+          (after-some nodes t (append_step t root list) t.root (appended root list) (given_at_root t (appended root list) s.table)))
+      | inr other ↦ is i ∙ cond-false (eqb t.root i) (Some (appended root list)) (nodes i) (ne_eqb t.root i other)
+          ∙ sym (after-none nodes t (append_step t root list) i (given_other t (appended root list) i (λ e. other (sym e))))
+    ] in each id) j

@@ -6,6 +6,7 @@ pub mod Keeping
 pub mod Lookup
 pub mod Meanings
 pub mod Sums
+pub mod KeptCounts
 pub mod Sound
 pub mod Privacy
 pub mod Edges

@@ -12,6 +12,8 @@ pub mod Owners
 pub mod Tables
 pub mod Private
 pub mod Steps
+pub mod Compaction
+pub mod Pushes
 pub mod Stores
 pub mod Frames
 pub mod Closed

@@ -6,10 +6,11 @@ ghost use Rattle.bd_node.specs.declared.node.Node.{Node};
 ghost use Rattle.bd_node.specs.Nodes.{buffer_size};
 ghost use Rattle.bd_node.specs.Meaning.{Nodes};
 ghost use Rattle.bd_node.specs.Tables.{Table, kept_count, IsKept, IsTable, IsNodeOf, IsSound};
+ghost use Rattle.bd_node.specs.Pushes.{IsPush, CanPush, HasPushed, IsPushed};
 ghost use Rattle.bd_node.specs.Steps.{IsStep, IsInPlace, IsTableAfter, IsCommitted, IsWornBy, IsWornByAdding, IsRootOf, append_step, extend_step, HasGrown};
 ghost use Rattle.bd_node.specs.Stores.{visited, FitsRoot, OnlyReadsBy, StaysBy};
 
-use crate::{Items, Messages, Node, Step};
+use crate::{Items, Messages, Node, Push, Step};
 use bd_message::MapFault;
 use std::rc::Rc;
 
@@ -118,6 +119,26 @@ pub trait NodeStore {
         ensures cause { HasMapCause (fault_count self.old) (fault_count self.new)
             (bad self.new) (IsWornByAdding (table self.old) made list) result };
 
+    /// Lets messages go down from a private node to its private child: the commit of both changed
+    /// so, for the cost of what goes down and of a look at what else waits in the two where these
+    /// were changed before and nobody else holds them. No visit.
+    fn push_down(&mut self, push: Push) -> Result<(), MapFault>
+        requires push { IsPush (table self.old) push }
+        requires can { is_known self.old → IsSound (nodes self.old) (table self.old)
+            → CanPush (nodes self.old) (table self.old) push }
+        ensures table { OnOk result (HasPushed (table self.old) push (table self.new)) }
+        ensures committed { is_known self.old → IsSound (nodes self.old) (table self.old)
+            → (parent child : Node) → nodes self.old push.parent ≡ Some parent
+            → nodes self.old push.child ≡ Some child
+            → OnOk result (IsPushed (nodes self.old) (table self.old) push parent child
+            (nodes self.new) (table self.new)) }
+        ensures stays { StaysBy is_known keeps loans self.old self.new }
+        ensures err { OnErr result
+            (OnlyReadsBy is_known nodes table reads loans self.old self.new) }
+        ensures visits { visit_count self.new ≡ visit_count self.old }
+        ensures cause { HasMapCause (fault_count self.old) (fault_count self.new)
+            (bad self.new) NeverWorn result };
+
     /// The root's id. It is kept, and an inner node.
     fn root(&self) -> u64
         ensures value { result ≡ (table self.now).root }
@@ -213,6 +234,10 @@ impl<S: NodeStore> NodeStore for &mut S {
 
     fn extend(&mut self, made: Items<Node>, list: Messages) -> Result<(), MapFault> {
         NodeStore::extend(&mut **self, made, list)
+    }
+
+    fn push_down(&mut self, push: Push) -> Result<(), MapFault> {
+        NodeStore::push_down(&mut **self, push)
     }
 
     fn root(&self) -> u64 {

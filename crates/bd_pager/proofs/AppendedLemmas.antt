@@ -21,7 +21,7 @@ use Rattle.bd_node.specs.Steps.{after, append_step, grown, with_touched, HasGrow
 use Rattle.bd_node.specs.Tables.{Table, IsLower, IsNodeOf, IsStored, IsSound}
 use Rattle.bd_node.proofs.Lookup.{each_weaker}
 use Rattle.bd_node.proofs.Appending.{shape_appended, level_appended, buffer_appended, names_appended, append_sound}
-use Rattle.bd_memnodes.proofs.Appended.{is_appended}
+use Rattle.bd_node.proofs.Appending.{is_appended}
 use Rattle.bd_pager.specs.declared.place.Place.{Place}
 use Rattle.bd_pager.specs.declared.place.Spot.{Spot}
 use Rattle.bd_pager.specs.Calling.{no_reads}

@@ -8,7 +8,7 @@ use Rattle.bd_device.specs.Blocks.{Image}
 use Rattle.bd_node.specs.Tables.{kept_count, sum_below}
 use Rattle.bd_table.specs.Tables.{slots_of}
 use Rattle.bd_table.specs.declared.table.TableEntry.{TableEntry}
-use Rattle.bd_memnodes.proofs.Keeping.{kept_is}
+use Rattle.bd_node.proofs.KeptCounts.{kept_is}
 use Rattle.bd_pager.specs.declared.place.Spot.{Spot}
 use Rattle.bd_pager.specs.Places.{refs_in}
 use Rattle.bd_pager.specs.Pagers.{Paged, spots_of, table_of, is_saved, is_changed, is_changed_place, IsPaged}

@@ -21,7 +21,7 @@ use Rattle.bd_node.specs.Nodes.{level_of, buffer_size, message_names, edge_names
 use Rattle.bd_node.specs.Shape.{end_before, EachEdge, AreRising, IsEdge, IsInner, IsShape}
 use Rattle.bd_node.proofs.Edges.{IsRisingEdge}
 use Rattle.bd_node.proofs.Lookup.{count-cons_other}
-use Rattle.bd_inner.specs.Compaction.{IsLoose, IsLooseNode, IsCompacted}
+use Rattle.bd_node.specs.Compaction.{IsLoose, IsLooseNode, IsCompacted}
 use Rattle.bd_node.specs.Parts.{edges_of, buffer_of, end_at, IsEdgeAt}
 use Rattle.bd_inner.proofs.CarvingOwned.{begins_front}
 use Rattle.bd_inner.proofs.Compacting.{count_names, count_names-append, compacted_shape, compacted_level, compacted_meaning, compacted_size, compacted_times}

@@ -12,7 +12,7 @@ use Rattle.bd_node.specs.declared.node.Node.TheVariants.{Leaf, Inner}
 use Rattle.bd_node.specs.Tables.{sum_below}
 use Rattle.bd_node.specs.Keeping.{staying, stay_count}
 use Rattle.bd_node.proofs.Keeping.{count-yes, count-skip}
-use Rattle.bd_inner.specs.Compaction.{lowered}
+use Rattle.bd_node.specs.Compaction.{lowered}
 use Rattle.bd_reclaim.specs.declared.covering.Cover.{Cover}
 use Rattle.bd_reclaim.specs.declared.covering.Cover.TheVariants.{Gone, Elsewhere}
 use Rattle.bd_reclaim.specs.Covering.{Says, decided_edge}

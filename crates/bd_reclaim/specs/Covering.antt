@@ -11,7 +11,7 @@ use Rattle.bd_node.specs.Touching.{touches}
 use Rattle.bd_node.specs.Parts.{edges_of, buffer_of, end_at, IsEdgeAt}
 use Rattle.bd_inner.specs.Halves.{bare_edge}
 use Rattle.bd_inner.specs.Carving.{from_key, goto_edge}
-use Rattle.bd_inner.specs.Compaction.{IsCompacted}
+use Rattle.bd_node.specs.Compaction.{IsCompacted}
 use Rattle.bd_reclaim.specs.declared.covering.Cover.{Cover}
 use Rattle.bd_reclaim.specs.declared.covering.Cover.TheVariants.{Gone, Elsewhere}
 

@@ -4,7 +4,7 @@ ghost use Rattle.std.specs.Prelude.{◌≡◌, ◌+◌, ◌<◌, ◌≤◌, ◌^
 ghost use Rattle.bd_message.specs.Messages.{IsMessage};
 ghost use Rattle.bd_node.specs.Parts.{edges_of};
 ghost use Rattle.bd_node.specs.Shape.{AreRising, IsShape};
-ghost use Rattle.bd_inner.specs.Compaction.{IsLooseNode, IsCompacted};
+ghost use Rattle.bd_node.specs.Compaction.{IsLooseNode, IsCompacted};
 ghost use Rattle.bd_path.specs.Paths.{change_step};
 ghost use Rattle.bd_reclaim.specs.declared.covering.Cover.{Cover};
 ghost use Rattle.bd_reclaim.specs.Covering.{IsCovered, decided_edge, IsRun, joined, IsDecided};

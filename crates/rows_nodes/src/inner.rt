@@ -4,7 +4,7 @@ ghost use Rattle.bd_keys.specs.Keys.{IsBelowEnd};
 ghost use Rattle.bd_message.specs.Messages.{IsMessage, IsPlain};
 ghost use Rattle.bd_node.specs.Nodes.{level_of, buffer_size};
 ghost use Rattle.bd_node.specs.Shape.{end_before, AreRising, IsShape};
-ghost use Rattle.bd_inner.specs.Compaction.{IsFlat};
+ghost use Rattle.bd_inner.specs.Exchanging.{IsFlat};
 ghost use Rattle.bd_node.specs.Parts.{edges_of, buffer_of};
 ghost use Rattle.bd_inner.specs.Batches.{IsLifted};
 

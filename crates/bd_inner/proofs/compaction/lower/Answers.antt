@@ -2,7 +2,7 @@ use Rattle.std.proofs.Common.{ℕ, List, ap, ◌∙◌, sym, arith, count_by, ta
 use Rattle.std.proofs.Math.ListN.{set}
 use Rattle.std.proofs.lemmas.List.Edits.{map_over_more}
 use Rattle.bd_node.specs.declared.node.Edge.{Edge}
-use Rattle.bd_inner.specs.Compaction.{lowered}
+use Rattle.bd_node.specs.Compaction.{lowered}
 use Rattle.bd_inner.proofs.compaction.lower.Goals as goal
 
 pub loop-edge-preserved : goal.loop-edge-preserved

@@ -1,5 +1,5 @@
 use Rattle.std.proofs.Common.{◌≡◌, ◌++◌, take, drop, map}
-use Rattle.bd_inner.specs.Compaction.{lowered}
+use Rattle.bd_node.specs.Compaction.{lowered}
 use Rattle.bd_inner.proofs.compaction.lower.Given as goal
 
 abbrev pub invariant-loop-edge : goal.invariant-loop-edge

@@ -1,5 +1,5 @@
 use Rattle.std.proofs.Common.{take}
-use Rattle.bd_inner.specs.Compaction.{IsMask}
+use Rattle.bd_node.specs.Compaction.{IsMask}
 use Rattle.bd_inner.proofs.compaction.pending_mask.Given as goal
 
 abbrev pub invariant-loop-place : goal.invariant-loop-place

@@ -1,5 +1,5 @@
 use Rattle.std.specs.List.{AllByRecursion}
-use Rattle.bd_inner.specs.Compaction.{IsFlat}
+use Rattle.bd_inner.specs.Exchanging.{IsFlat}
 use Rattle.rows_nodes.proofs.inner.edges.Given as goal
 
 abbrev pub invariant-loop-pivot : goal.invariant-loop-pivot

@@ -25,14 +25,6 @@ abbrev pub IsLooseNode : Node → Type 0
 IsLooseNode (Leaf entries) = IsLeaf entries
 IsLooseNode (Inner level edges buffer) = IsLoose level edges buffer
 
--- an edge that leaves nothing out and puts nothing in front, over a buffer of so many messages
-pub record IsFlat (buffered : ℕ) (e : Edge) : Type 0 where
-  pub pivot : length e.pivot ≤ key_limit
-  pub lift : e.lift ≡ 0
-  pub source : e.source ≡ []
-  pub child : IsChild e.child []
-  pub seen : e.seen ≤ buffered
-
 -- the list says of each message whether it is pending for some edge
 pub record IsMask (mask : List Bool) (edges : List Edge) (buffer : List Message) : Type 0 where
   pub long : length mask ≡ length buffer
