@@ -1,6 +1,7 @@
 -- Messages that go down from a node to its child, and the step that moves them.
 use Rattle.std.specs.Prelude.{◌≡◌, ℕ, ◌+◌, ◌<◌, ◌≤◌, true, List, [], ◌∷◌, ◌++◌, length, take, drop, Option, Some, ⊤}
 use Rattle.std.specs.List.{AllByRecursion, sum_by}
+use Rattle.std.specs.Option.{ForSome}
 use Rattle.bd_limits.specs.Limits.{buffer_limit}
 use Rattle.bd_keys.specs.Keys.{InRange}
 use Rattle.bd_message.specs.declared.message.Message.{Message}
@@ -12,11 +13,15 @@ use Rattle.bd_node.specs.declared.node.Step.{Step}
 use Rattle.bd_node.specs.declared.push.Gain.{Gain}
 use Rattle.bd_node.specs.declared.push.Gain.TheVariants.{Messages, Entries}
 use Rattle.bd_node.specs.declared.push.Push.{Push}
+use Rattle.bd_node.specs.declared.relief.Relief.{Relief}
 use Rattle.bd_node.specs.Compaction.{IsCompacted}
+use Rattle.bd_node.specs.Index.{IsIndex}
+use Rattle.bd_node.specs.Stems.{AreByStem}
+use Rattle.bd_node.specs.Keeping.{staying}
 use Rattle.bd_node.specs.Touching.{touches}
 use Rattle.bd_node.specs.Nodes.{level_of, buffer_size, appended}
 use Rattle.bd_node.specs.Meaning.{Nodes}
-use Rattle.bd_node.specs.Parts.{buffer_of, end_at, IsEdgeAt}
+use Rattle.bd_node.specs.Parts.{edges_of, buffer_of, end_at, IsEdgeAt}
 use Rattle.bd_node.specs.Private.{IsPrivate}
 use Rattle.bd_node.specs.Shape.{IsLeaf}
 use Rattle.bd_node.specs.Steps.{IsTableAfter, IsCommitted}
@@ -52,6 +57,36 @@ pub record CanRelieve (n : Node) (place count : ℕ) : Type 0 where
   pub there : edge.seen + count ≤ length (buffer_of n)
   pub plain : AllByRecursion (IsPlainFor edge (end_at n place))
       (take count (drop edge.seen (buffer_of n)))
+
+-- ---- the same in place
+
+-- the edges, having seen so many messages each
+abbrev pub with_seen : List ℕ → List Edge → List Edge
+with_seen [] edges = edges
+with_seen (seen ∷ seens) [] = []
+with_seen (seen ∷ seens) (e ∷ edges) = record e { seen = seen } ∷ with_seen seens edges
+
+-- the node in which this has changed
+abbrev pub changed_by : Relief → Node → Node
+changed_by r (Leaf entries) = Leaf entries
+changed_by r (Inner level edges buffer) =
+    Inner level (with_seen r.seens.items edges) (staying r.stays.items buffer)
+
+-- it can change the node: it speaks of each edge and each message, and its index is of those that stay
+pub record FitsNode (r : Relief) (n : Node) : Type 0 where
+  pub edges : length r.seens.items ≡ length (edges_of n)
+  pub messages : length r.stays.items ≡ length (buffer_of n)
+  pub index : ForSome r.index (λ index.
+      IsIndex (staying r.stays.items (buffer_of n)) (length (staying r.stays.items (buffer_of n)))
+      index.points.items index.ranges.items
+      × AreByStem (staying r.stays.items (buffer_of n))
+      (length (staying r.stays.items (buffer_of n))) index.stems.items)
+
+-- what is to change in the node, for so many messages to go down its edge
+pub record IsReliefOf (n : Node) (place count : ℕ) (r : Relief) : Type 0 where
+  pub can : CanRelieve n place count
+  pub fits : FitsNode r n
+  pub relieved : IsRelieved n place can.edge count (changed_by r n)
 
 -- ---- its child
 
