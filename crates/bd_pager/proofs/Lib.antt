@@ -1,3 +1,4 @@
+pub mod AlteredLemmas
 pub mod AppendedLemmas
 pub mod AskedLemmas
 pub mod CarryLemmas
@@ -16,6 +17,7 @@ pub mod MovingLemmas
 pub mod NamingLemmas
 pub mod OpenedLemmas
 pub mod PagerLemmas
+pub mod PushedLemmas
 pub mod PuttingLemmas
 pub mod ReadLemmas
 pub mod ReaderLemmas
@@ -23,6 +25,7 @@ pub mod ReadyLemmas
 pub mod SavedLemmas
 pub mod SlotLemmas
 pub mod SpilledLemmas
+pub mod StandIns
 pub mod StepLoops
 pub mod SteppedLemmas
 pub mod StepsLemmas

@@ -12,6 +12,7 @@ pub mod Moving
 pub mod Opened
 pub mod Pagers
 pub mod Places
+pub mod Pushing
 pub mod Readers
 pub mod Slots
 pub mod Stepping

@@ -136,9 +136,9 @@ pub fn slot_if_spare(spare: &SlotSet, slot: u32) -> Option<u32>
     }
 }
 
-// Puts messages after those that wait in a node: in its place where nobody else holds it, else in
-// the place of a copy.
-fn append_to(alloc: Global, shared: &mut Rc<Node>, list: Messages) -> Result<(), AllocError>
+/// Puts messages after those that wait in a node: in its place where nobody else holds it, else in
+/// the place of a copy.
+pub fn append_to(alloc: Global, shared: &mut Rc<Node>, list: Messages) -> Result<(), AllocError>
     ensures ok { OnOk result (shared.new.value ≡ appended shared.old.value list) }
     ensures err { OnErr result (shared.new ≡ shared.old) }
 {

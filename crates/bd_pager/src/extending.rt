@@ -74,8 +74,8 @@ pub fn copy_names_lower(spots: &HashMap<u64, Spot>, id: u64) -> bool
     }
 }
 
-// The node that a place has in memory.
-fn copy_of(place: &Place) -> Option<&Node>
+/// The node that a place has in memory.
+pub fn copy_of(place: &Place) -> Option<&Node>
     ensures { option_copied result ≡ copy_at place.now }
 {
     match place {

@@ -24,6 +24,7 @@ ghost use Rattle.bd_pager.specs.Pagers.{table_of, nodes_of, spots_of, saved_as, 
 ghost use Rattle.bd_pager.specs.Places.{spots_in, AreCached};
 ghost use Rattle.bd_tails.specs.Tails.{AreTails};
 
+mod pushing;
 mod steps;
 mod store;
 mod writing_out;

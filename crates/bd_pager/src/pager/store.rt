@@ -7,7 +7,7 @@ ghost use Rattle.bd_pager.specs.Pagers.{table_of, nodes_of, is_known, is_bad, Is
 use super::Pager;
 use bd_device::Device;
 use bd_message::MapFault;
-use bd_node::{Items, Messages, Node, NodeStore, Step};
+use bd_node::{Items, Messages, Node, NodeStore, Push, Step};
 use std::rc::Rc;
 
 impl<D: Device> NodeStore for Pager<D> {
@@ -51,6 +51,10 @@ impl<D: Device> NodeStore for Pager<D> {
 
     fn extend(&mut self, made: Items<Node>, list: Messages) -> Result<(), MapFault> {
         Pager::extend(self, made, list)
+    }
+
+    fn push_down(&mut self, push: Push) -> Result<(), MapFault> {
+        Pager::push_down(self, push)
     }
 
     fn root(&self) -> u64 {

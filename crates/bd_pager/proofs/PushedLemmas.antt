@@ -1,0 +1,424 @@
+-- A pager in which messages went down from a node to its child.
+use Rattle.std.proofs.Common.{◌≡◌, ◌≢◌, ℕ, ◌+◌, ◌-◌, ◌<◌, ◌≤◌, ◌⊎◌, Bool, true, cond, eqb, nat_eq, is_some, IsTrue, List, [], ◌∷◌, map, Option, None, Some, IfSome, refl, sym, ap, subst, ◌∙◌, arith, inl, inr}
+use Rattle.std.specs.Prelude.{IsSome}
+use Rattle.std.specs.Global.{Global}
+use Rattle.std.specs.List.{AllByRecursion}
+use Rattle.std.specs.Map.{lookup}
+use Rattle.std.specs.Option.{option_map}
+use Rattle.std.specs.declared.rc.Rc.{Rc}
+use Rattle.std.proofs.lemmas.Bool.{cases_eq, cases_lt, cond-true, cond-false, eq-eqb, ne_eqb}
+use Rattle.std.proofs.lemmas.Option.{none-some, same_Some}
+use Rattle.bd_device.specs.Blocks.{Image}
+use Rattle.bd_device.specs.declared.device.Device.{Ghosts}
+use Rattle.bd_cache.specs.Cache.{kept_at}
+use Rattle.bd_cache.specs.declared.cache.NodeCache.{NodeCache}
+use Rattle.bd_node.specs.declared.node.Change.{Change}
+use Rattle.bd_node.specs.declared.node.Edge.{Edge}
+use Rattle.bd_node.specs.declared.node.Node.{Node}
+use Rattle.bd_node.specs.declared.node.Step.{Step}
+use Rattle.bd_node.specs.declared.push.Gain.{Gain}
+use Rattle.bd_node.specs.declared.push.Gain.TheVariants.{Messages, Entries}
+use Rattle.bd_node.specs.declared.push.Push.{Push}
+use Rattle.bd_node.specs.Nodes.{level_of, names}
+use Rattle.bd_node.specs.Meaning.{Nodes}
+use Rattle.bd_node.specs.Parts.{IsEdgeAt}
+use Rattle.bd_node.specs.Pushes.{IsRelieved, gained, push_step, IsGain, HasRoomFor, CanMake, IsPush, CanPush, IsPushStep, HasPushed, IsPushed}
+use Rattle.bd_node.specs.Shape.{IsShape}
+use Rattle.bd_node.specs.Steps.{given, changed_at}
+use Rattle.bd_node.specs.Stores.{StaysBy}
+use Rattle.bd_node.specs.Tables.{Table, IsKept, IsSound}
+use Rattle.bd_node.proofs.Appending.{shape_appended, level_appended, names_appended}
+use Rattle.bd_node.proofs.Stepping.{by_given, given-old, given-new, changed_at-same, changed_at-other}
+use Rattle.bd_pager.specs.declared.place.Place.{Place}
+use Rattle.bd_pager.specs.declared.place.Place.TheVariants.{Memory}
+use Rattle.bd_pager.specs.declared.place.Spot.{Spot}
+use Rattle.bd_pager.specs.declared.stepping.Put.{Put}
+use Rattle.bd_pager.specs.declared.usage.Tally.{Tally}
+use Rattle.bd_pager.specs.declared.usage.Usage.{Usage}
+use Rattle.bd_pager.specs.declared.usage.TheConstants.{IN_MEMORY}
+use Rattle.bd_pager.specs.Calling.{read_keeps, keeps_both}
+use Rattle.bd_pager.specs.Changing.{own_slot, IsChangedPlace, IsChangedSpot, IsChangedAt}
+use Rattle.bd_pager.specs.Counting.{is_in_memory, tally_of, recounted, IsTallied}
+use Rattle.bd_pager.specs.Keeping.{KeepsSaved}
+use Rattle.bd_pager.specs.Places.{Spots, level_in, copy_at, copy_in, nodes_at, IsLowerIn, IsRead, AreCached, ArePlaced}
+use Rattle.bd_pager.specs.Pagers.{Paged, spots_of, table_of, nodes_of, IsKnownOver, is_known, IsOfSize, IsPaged}
+use Rattle.bd_pager.specs.Pushing.{placed_at, with_places, HasBecome, ArePlacesPushed, IsPushedInPlace, IsReadAs, IsPushPlan}
+use Rattle.bd_pager.specs.Slots.{IsOfLevel}
+use Rattle.bd_pager.specs.Stepping.{held, change_of, put_at, put_spot, with_put}
+use Rattle.bd_pager.specs.Testing.{Marks, is_tested, NamesLower, AreTested}
+use Rattle.bd_pager.proofs.AlteredLemmas.{WasChanged, AreChanged, copy_given, altered, altered_paged, altered_tested, altered_table, altered_stays, altered_nodes, altered_count}
+use Rattle.bd_pager.proofs.CountingLemmas.{changed_tallied}
+use Rattle.bd_pager.proofs.FreshLemmas.{copy_at_place}
+use Rattle.bd_pager.proofs.PagerLemmas.{kept_there}
+use Rattle.bd_pager.proofs.PuttingLemmas.{put_is}
+use Rattle.bd_pager.proofs.ReaderLemmas.{copied_unread}
+use Rattle.bd_pager.proofs.StandIns.{relieved_level, relieved_shape, relieved_names, pushed_after}
+use Rattle.bd_pager.proofs.SteppedLemmas.{none_mapped}
+use Rattle.bd_pager.proofs.StepsLemmas.{OnlyReadsOf, no_loans}
+use Rattle.bd_pager.proofs.TestedLemmas.{some_at}
+
+-- ---- places that are taken and put back
+
+same_at : {X : Type 0} (k i : ℕ) (a b : X) → k ≡ i → cond (eqb k i) a b ≡ a
+same_at k i a b same = cond-true (eqb k i) a b (eq-eqb k i same)
+
+other_at : {X : Type 0} (k i : ℕ) (a b : X) → (k ≡ i → ⊥) → cond (eqb k i) a b ≡ b
+other_at k i a b other = cond-false (eqb k i) a b (ne_eqb k i other)
+
+placed_twice : (gap place : Place) (o : Option Spot) → placed_at place (placed_at gap o) ≡ placed_at place o
+placed_twice gap place None = refl
+placed_twice gap place (Some s) = refl
+
+pub places_put : (old first second third last : Spots) (parent child : ℕ) (gap above below : Place) → parent ≢ child
+    → ((i : ℕ) → first i ≡ cond (eqb parent i) (placed_at gap (old parent)) (old i)) → ((i : ℕ) → second i ≡ cond (eqb child i) (placed_at gap (first child)) (first i))
+    → ((i : ℕ) → third i ≡ cond (eqb child i) (placed_at below (second child)) (second i)) → ((i : ℕ) → last i ≡ cond (eqb parent i) (placed_at above (third parent)) (third i))
+    → (i : ℕ) → last i ≡ with_places parent above child below old i
+places_put old first second third last parent child gap above below apart one two three four i = elim (cases_eq parent i) [
+  | inl same ↦
+      let away : child ≡ parent → ⊥ = λ e. apart (sym e) in
+      four i ∙ same_at parent i (placed_at above (third parent)) (third i) same
+      ∙ ap (placed_at above)
+      (three parent ∙ other_at child parent (placed_at below (second child)) (second parent) away
+      ∙ two parent ∙ other_at child parent (placed_at gap (first child)) (first parent) away
+      ∙ one parent ∙ same_at parent parent (placed_at gap (old parent)) (old parent) refl)
+      ∙ placed_twice gap above (old parent)
+      ∙ sym (same_at parent i (placed_at above (old parent)) (cond (eqb child i) (placed_at below (old child)) (old i)) same)
+  | inr other ↦
+      four i ∙ other_at parent i (placed_at above (third parent)) (third i) other
+      ∙ elim (cases_eq child i) [
+        | inl same ↦
+            three i ∙ same_at child i (placed_at below (second child)) (second i) same
+            ∙ ap (placed_at below)
+            (two child ∙ same_at child child (placed_at gap (first child)) (first child) refl
+            ∙ ap (placed_at gap) (one child ∙ other_at parent child (placed_at gap (old parent)) (old child) apart))
+            ∙ placed_twice gap below (old child)
+            ∙ sym (same_at child i (placed_at below (old child)) (old i) same)
+        | inr away ↦
+            three i ∙ other_at child i (placed_at below (second child)) (second i) away
+            ∙ two i ∙ other_at child i (placed_at gap (first child)) (first i) away
+            ∙ one i ∙ other_at parent i (placed_at gap (old parent)) (old i) other
+            ∙ sym (other_at child i (placed_at below (old child)) (old i) away)
+      ]
+      ∙ sym (other_at parent i (placed_at above (old parent)) (cond (eqb child i) (placed_at below (old child)) (old i)) other)
+]
+
+placed_own : (o : Option Spot) (place : Place) → IfSome o (λ s. place ≡ s.place) → placed_at place o ≡ o
+placed_own None place own = refl
+placed_own (Some s) place own = λ j. Some (record s { place = own j })
+
+-- where each is put back where it was, nothing has changed
+pub places_own : (old : Spots) (parent child : ℕ) (above below : Place) → IfSome (old parent) (λ s. above ≡ s.place) → IfSome (old child) (λ s. below ≡ s.place)
+    → (i : ℕ) → with_places parent above child below old i ≡ old i
+places_own old parent child above below own_above own_below i = elim (cases_eq parent i) [
+  | inl same ↦
+      same_at parent i (placed_at above (old parent)) (cond (eqb child i) (placed_at below (old child)) (old i)) same
+      ∙ placed_own (old parent) above own_above ∙ ap old same
+  | inr other ↦
+      other_at parent i (placed_at above (old parent)) (cond (eqb child i) (placed_at below (old child)) (old i)) other
+      ∙ elim (cases_eq child i) [
+        | inl same ↦ same_at child i (placed_at below (old child)) (old i) same ∙ placed_own (old child) below own_below ∙ ap old same
+        | inr away ↦ other_at child i (placed_at below (old child)) (old i) away
+      ]
+]
+
+-- ---- what the step gives
+
+module _ (next root parent child : ℕ) (above below : Node) (parent_low : parent < next) (child_low : child < next) (apart : parent ≢ child) where
+  abbrev step : Step
+  step = push_step root parent above child below
+
+  abbrev first : Change
+  first = record { id = child; node = below }
+
+  abbrev second : Change
+  second = record { id = parent; node = above }
+
+  pub gives_child : given next step child ≡ Some below
+  gives_child = given-old next step child child_low ∙ changed_at-same first (second ∷ []) child refl
+
+  pub gives_parent : given next step parent ≡ Some above
+  gives_parent = given-old next step parent parent_low ∙ changed_at-other first (second ∷ []) parent apart ∙ changed_at-same second [] parent refl
+
+  -- no others
+  pub gives_both : (id : ℕ) (n : Node) → given next step id ≡ Some n → ((id ≡ child) × (below ≡ n)) ⊎ ((id ≡ parent) × (above ≡ n))
+  gives_both id n some = elim (cases_lt id next) [
+    | inl low ↦
+        let changed : changed_at (first ∷ second ∷ []) id ≡ Some n = sym (given-old next step id low) ∙ some in
+        elim (cases_eq id child) [
+          | inl same ↦ inl (same, same_Some below n (sym (changed_at-same first (second ∷ []) id same) ∙ changed))
+          | inr other ↦
+              let later : changed_at (second ∷ []) id ≡ Some n = sym (changed_at-other first (second ∷ []) id other) ∙ changed in
+              elim (cases_eq id parent) [
+                | inl same ↦ inr (same, same_Some above n (sym (changed_at-same second [] id same) ∙ later))
+                | inr away ↦ absurd (none-some n (sym (changed_at-other second [] id away) ∙ later))
+              ]
+        ]
+    | inr high ↦ absurd (none-some n (sym (given-new next step id high) ∙ some))
+  ]
+
+  pub gives_none : (id : ℕ) → given next step id ≡ None → (id ≢ child) × (id ≢ parent)
+  gives_none id none = (
+    λ same. none-some below (sym none ∙ ap (given next step) same ∙ gives_child),
+    λ same. none-some above (sym none ∙ ap (given next step) same ∙ gives_parent),
+  )
+
+  pub changed_both : (spare : List Bool) (spots new : Spots) → WasChanged spare child below spots new → WasChanged spare parent above spots new → ((id : ℕ) → id ≢ child → id ≢ parent → new id ≡ spots id)
+      → AreChanged spare (λ id. given next step id) spots new
+  changed_both spare spots new lower upper others = record {
+    some = λ id n some. elim (gives_both id n some) [
+      | inl is ↦ subst (λ (k : ℕ). WasChanged spare k n spots new) (sym is.0) (subst (λ (m : Node). WasChanged spare child m spots new) is.1 lower)
+      | inr is ↦ subst (λ (k : ℕ). WasChanged spare k n spots new) (sym is.0) (subst (λ (m : Node). WasChanged spare parent m spots new) is.1 upper)
+    ];
+    none = λ id none. let out = gives_none id none in others id out.0 out.1;
+  }
+
+-- ---- what the two nodes are then
+
+gained_own : (level : ℕ) (m : Node) (gain : Gain) → IsOfLevel level m → IsGain level gain → HasRoomFor m gain → IsOfLevel level (gained m gain)
+gained_own level m (Messages list) own is room = record { shape = shape_appended m list own.shape is.1.0 room; level_is = level_appended m list ∙ own.level_is }
+gained_own level m (Entries entries) own is room = record { shape = is.1; level_is = sym is.0 }
+
+gained_names : (spots : Spots) (level : ℕ) (m : Node) (gain : Gain) → IsGain level gain → NamesLower spots m → NamesLower spots (gained m gain)
+gained_names spots level m (Messages list) is lower =
+    subst (λ (ids : List ℕ). AllByRecursion (λ id. IsLower (level_of (gained m (Messages list))) id) ids) (sym (names_appended m list is.1.1))
+    (subst (λ (l : ℕ). AllByRecursion (λ id. IsLower l id) (names m)) (sym (level_appended m list)) lower)
+  where
+    abbrev IsLower : ℕ → ℕ → Type 0
+    IsLower l id = IsLowerIn spots l id
+gained_names spots level m (Entries entries) is lower = tt
+
+-- ---- the pager
+
+-- all that holds then
+pub record HasMadePush {D : Type 0} (g : Ghosts D) (p : Paged D) (push : Push) (new : Paged D) : Type 0 where
+  pub table : HasPushed (table_of p) push (table_of new)
+  pub stays : StaysBy (is_known g) (KeepsSaved g) no_loans p new
+  pub committed : is_known g p → IsSound (nodes_of g p) (table_of p) → (n m : Node) → nodes_of g p push.parent ≡ Some n → nodes_of g p push.child ≡ Some m
+      → IsPushed (nodes_of g p) (table_of p) push n m (nodes_of g new) (table_of new)
+
+module _ {D : Type 0} (g : Ghosts D) (p : Paged D) (push : Push) (parent child above : Node) (entries : List (ℕ × Spot)) (was : IsPaged (g.contents p.dev) p) (is : IsPush (table_of p) push)
+    (parent_own : IsReadAs (g.contents p.dev) (spots_of p) push.parent parent) (child_own : IsReadAs (g.contents p.dev) (spots_of p) push.child child)
+    (can : CanMake push parent child) (relieved : IsRelieved parent push.place can.relieve.edge push.count above) where
+  abbrev pub taken : Step
+  taken = push_step p.root push.parent above push.child (gained child push.gain)
+
+  parent_low : push.parent < p.next
+  parent_low = was.table.below push.parent is.parent
+
+  child_low : push.child < p.next
+  child_low = was.table.below push.child is.child
+
+  pub nodes_apart : push.parent ≢ push.child
+  nodes_apart e = omega (arith, is.lower, ap (table_of p).level e)
+
+  makes : IsPushStep p.root push parent child taken
+  makes = record { edge = can.relieve.edge; here = can.relieve.here; above = above; relieved = relieved; is = refl }
+
+  own_above : IsOfLevel (level_in (spots_of p push.parent)) above
+  own_above = record {
+    shape = relieved_shape parent push.place can.relieve.edge push.count above parent_own.of_level.shape can.relieve.here can.relieve.there relieved;
+    level_is = relieved_level parent push.place can.relieve.edge push.count above relieved ∙ parent_own.of_level.level_is;
+  }
+
+  own_below : IsOfLevel (level_in (spots_of p push.child)) (gained child push.gain)
+  own_below = gained_own (level_in (spots_of p push.child)) child push.gain child_own.of_level is.gain can.room
+
+  pub own_given : (id : ℕ) (n : Node) → given p.next taken id ≡ Some n → IsOfLevel (level_in (spots_of p id)) n
+  own_given id n some = elim (gives_both p.next p.root push.parent push.child above (gained child push.gain) parent_low child_low nodes_apart id n some) [
+    | inl it ↦ subst (λ (k : ℕ). IsOfLevel (level_in (spots_of p k)) n) (sym it.0) (subst (λ (m : Node). IsOfLevel (level_in (spots_of p push.child)) m) it.1 own_below)
+    | inr it ↦ subst (λ (k : ℕ). IsOfLevel (level_in (spots_of p k)) n) (sym it.0) (subst (λ (m : Node). IsOfLevel (level_in (spots_of p push.parent)) m) it.1 own_above)
+  ]
+
+  above_names : NamesLower (spots_of p) parent → NamesLower (spots_of p) above
+  above_names lower =
+      subst (λ (ids : List ℕ). AllByRecursion (IsLowerIn (spots_of p) (level_of above)) ids) (sym (relieved_names parent push.place push.count can.relieve above parent_own.of_level.shape relieved))
+      (subst (λ (l : ℕ). AllByRecursion (IsLowerIn (spots_of p) l) (names parent)) (sym (relieved_level parent push.place can.relieve.edge push.count above relieved)) lower)
+
+  -- what is given names what the nodes before named
+  pub given_names : (id : ℕ) (n : Node) → given p.next taken id ≡ Some n → (id ≡ push.parent → NamesLower (spots_of p) parent) → (id ≡ push.child → NamesLower (spots_of p) child) → NamesLower (spots_of p) n
+  given_names id n some upper lower = elim (gives_both p.next p.root push.parent push.child above (gained child push.gain) parent_low child_low nodes_apart id n some) [
+    | inl it ↦ subst (λ (m : Node). NamesLower (spots_of p) m) it.1 (gained_names (spots_of p) (level_in (spots_of p push.child)) child push.gain is.gain (lower it.0))
+    | inr it ↦ subst (λ (m : Node). NamesLower (spots_of p) m) it.1 (above_names (upper it.0))
+  ]
+
+  module _ (h : AreChanged p.spare (λ id. given p.next taken id) (spots_of p) (λ id. lookup (nat_eq id) entries)) where
+    pub root_shape : IfSome (copy_in (lookup (nat_eq p.root) entries)) IsShape
+    root_shape = by_given (IfSome (copy_in (lookup (nat_eq p.root) entries)) IsShape) (given p.next taken p.root)
+        (λ none. subst (λ (o : Option Spot). IfSome (copy_in o) IsShape) (sym (h.none p.root none)) (of_shape (spots_of p p.root) refl))
+        (λ n some. subst (λ (o : Option Node). IfSome o IsShape) (sym (copy_given p.spare (λ id. given p.next taken id) (spots_of p) (λ id. lookup (nat_eq id) entries) h p.root n some)) (own_given p.root n some).shape)
+      where
+        shape_at : (level : ℕ) (o : Option Node) → IfSome o (IsOfLevel level) → IfSome o IsShape
+        shape_at level None own = tt
+        shape_at level (Some n) own = own.shape
+
+        of_shape : (o : Option Spot) → spots_of p p.root ≡ o → IfSome (copy_in o) IsShape
+        of_shape None there = tt
+        of_shape (Some s) there = shape_at s.level (copy_at s.place) (was.placed p.root s there)
+
+    module _ (bytes : ℕ) (cache : NodeCache) (sized : IsSome (copy_in (lookup (nat_eq p.root) entries)) → IsOfSize bytes (copy_in (lookup (nat_eq p.root) entries)))
+        (cached : (id : ℕ) (n : Node) → kept_at cache id ≡ Some n → (kept_at p.cache id ≡ Some n) × (given p.next taken id ≡ None)) where
+      abbrev pub pushed : Paged D
+      pushed = altered g p taken entries bytes cache
+
+      pub pushed_paged : IsPaged (g.contents p.dev) pushed
+      pushed_paged = altered_paged g p taken entries bytes cache was h own_given sized cached
+
+      pub pushed_tested : (marks now : Marks) → ((id : ℕ) → IsTrue (is_tested now id) → IsTrue (is_tested marks id)) → (IsTrue (is_tested now push.parent) → NamesLower (spots_of p) parent) → (IsTrue (is_tested now push.child) → NamesLower (spots_of p) child)
+          → AreTested (spots_of p) p.cache marks → AreTested (spots_of pushed) cache now
+      pushed_tested marks now fewer upper lower =
+          altered_tested g p taken entries bytes cache was h own_given sized cached marks now fewer
+          (λ id n some on. given_names id n some
+          (λ same. upper (subst (λ (k : ℕ). IsTrue (is_tested now k)) same on))
+          (λ same. lower (subst (λ (k : ℕ). IsTrue (is_tested now k)) same on)))
+
+      pub has_made : HasMadePush g p push pushed
+      has_made =
+          let table = altered_table g p taken entries bytes cache was h own_given sized cached refl refl in
+          record {
+            table = record {
+              parent = parent;
+              child = child;
+              parent_level = parent_own.of_level.level_is;
+              child_level = child_own.of_level.level_is;
+              step = taken;
+              makes = makes;
+              table = table;
+            };
+            stays = altered_stays g p taken entries bytes cache was h own_given sized cached;
+            committed = λ known sound n m n_there m_there.
+                let parent_there : nodes_of g p push.parent ≡ Some parent = parent_own.there known in
+                let child_there : nodes_of g p push.child ≡ Some child = child_own.there known in
+                let same_parent : parent ≡ n = same_Some parent n (sym parent_there ∙ n_there) in
+                let same_child : child ≡ m = same_Some child m (sym child_there ∙ m_there) in
+                subst (λ (x : Node). IsPushed (nodes_of g p) (table_of p) push x m (nodes_of g pushed) (table_of pushed)) same_parent
+                (subst (λ (y : Node). IsPushed (nodes_of g p) (table_of p) push parent y (nodes_of g pushed) (table_of pushed)) same_child (record {
+                  step = taken;
+                  makes = makes;
+                  committed = pushed_after (nodes_of g p) (nodes_of g pushed) (table_of p) (table_of pushed) push parent child taken sound is parent_there child_there can makes
+                      (altered_nodes g p taken entries bytes cache was h own_given sized cached) table
+                      (altered_count g p taken entries bytes cache was h own_given sized cached);
+                }));
+          }
+
+-- reads before it leave that
+pub made_before : {D : Type 0} (g : Ghosts D) (old p : Paged D) (push : Push) (new : Paged D) → OnlyReadsOf g old p → HasMadePush g p push new → HasMadePush g old push new
+made_before g old p push new left made = record {
+  table = subst (λ (t : Table). HasPushed t push (table_of new)) left.table made.table;
+  stays = record {
+    known = λ known. made.stays.known (left.known known);
+    beside = keeps_both g old p new (read_keeps g old p left.read) made.stays.beside;
+    same_loans = refl;
+  };
+  committed = λ known sound n m.
+      let nodes : nodes_of g p ≡ nodes_of g old = left.kept known in
+      let sound_then : IsSound (nodes_of g p) (table_of p) =
+      subst (λ (t : Table). IsSound (nodes_of g p) t) (sym left.table) (subst (λ (ns : Nodes). IsSound ns (table_of old)) (sym nodes) sound) in
+      subst (λ (ns : Nodes). ns push.parent ≡ Some n → ns push.child ≡ Some m → IsPushed ns (table_of old) push n m (nodes_of g new) (table_of new)) nodes
+      (subst (λ (t : Table). nodes_of g p push.parent ≡ Some n → nodes_of g p push.child ≡ Some m → IsPushed (nodes_of g p) t push n m (nodes_of g new) (table_of new)) left.table
+      (made.committed (left.known known) sound_then n m));
+}
+
+-- ---- in place
+
+become_changed : (spare : List Bool) (n m : Node) (s : Spot) (new : Place) → HasBecome n m s.place new → IsChangedSpot spare m s (record s { place = new })
+become_changed spare n m s new h = record {
+  refs = refl;
+  level = refl;
+  place = record { node = h.then; value = h.is_value; place = h.is ∙ ap (Memory h.then) (sym (ap (own_slot spare) h.was)) };
+}
+
+module _ (push : Push) (spots new : Spots) (h : IsPushedInPlace push spots new) (apart : push.parent ≢ push.child) where
+  abbrev upper : Spot
+  upper = record h.parent { place = h.above }
+
+  abbrev lower : Spot
+  lower = record h.child { place = h.below }
+
+  upper_here : new push.parent ≡ Some upper
+  upper_here =
+      h.is push.parent
+      ∙ same_at push.parent push.parent (placed_at h.above (spots push.parent)) (cond (eqb push.child push.parent) (placed_at h.below (spots push.child)) (spots push.parent)) refl
+      ∙ ap (placed_at h.above) h.parent_there
+
+  lower_here : new push.child ≡ Some lower
+  lower_here =
+      h.is push.child
+      ∙ other_at push.parent push.child (placed_at h.above (spots push.parent)) (cond (eqb push.child push.child) (placed_at h.below (spots push.child)) (spots push.child)) apart
+      ∙ same_at push.child push.child (placed_at h.below (spots push.child)) (spots push.child) refl
+      ∙ ap (placed_at h.below) h.child_there
+
+  others_stay : (id : ℕ) → id ≢ push.child → id ≢ push.parent → new id ≡ spots id
+  others_stay id off_child off_parent =
+      h.is id
+      ∙ other_at push.parent id (placed_at h.above (spots push.parent)) (cond (eqb push.child id) (placed_at h.below (spots push.child)) (spots id)) (λ e. off_parent (sym e))
+      ∙ other_at push.child id (placed_at h.below (spots push.child)) (spots id) (λ e. off_child (sym e))
+
+  upper_changed : (spare : List Bool) → IsChangedSpot spare h.places.parent_is h.parent upper
+  upper_changed spare = become_changed spare h.places.parent_was h.places.parent_is h.parent h.above h.places.parent
+
+  lower_changed : (spare : List Bool) → IsChangedSpot spare h.places.child_is h.child lower
+  lower_changed spare = become_changed spare h.places.child_was h.places.child_is h.child h.below h.places.child
+
+  pub place_changed : (spare : List Bool) (next root : ℕ) → push.parent < next → push.child < next → AreChanged spare (λ id. given next (push_step root push.parent h.places.parent_is push.child h.places.child_is) id) spots new
+  place_changed spare next root parent_low child_low =
+      changed_both next root push.parent push.child h.places.parent_is h.places.child_is parent_low child_low apart spare spots new
+      (record { was = h.child; there = h.child_there; now = lower; here = lower_here; changed = lower_changed spare })
+      (record { was = h.parent; there = h.parent_there; now = upper; here = upper_here; changed = upper_changed spare })
+      others_stay
+
+  -- the child alone was changed
+  abbrev mid : Spots
+  mid id = cond (eqb push.child id) (Some lower) (spots id)
+
+  child_first : (spare : List Bool) → IsChangedAt spare push.child h.places.child_is spots mid
+  child_first spare = record {
+    was = h.child;
+    there = h.child_there;
+    now = lower;
+    here = same_at push.child push.child (Some lower) (spots push.child) refl;
+    changed = lower_changed spare;
+    others = λ i other. other_at push.child i (Some lower) (spots i) (λ e. other (sym e));
+  }
+
+  then_parent : (spare : List Bool) → IsChangedAt spare push.parent h.places.parent_is mid new
+  then_parent spare = record {
+    was = h.parent;
+    there = other_at push.child push.parent (Some lower) (spots push.parent) (λ e. apart (sym e)) ∙ h.parent_there;
+    now = upper;
+    here = upper_here;
+    changed = upper_changed spare;
+    others = λ i other. elim (cases_eq i push.child) [
+      | inl same ↦ ap new same ∙ lower_here ∙ sym (same_at push.child i (Some lower) (spots i) (sym same))
+      | inr away ↦ others_stay i away other ∙ sym (other_at push.child i (Some lower) (spots i) (λ e. away (sym e)))
+    ];
+  }
+
+  memory_tally : (spare : List Bool) (n m : Node) (o : Option Spot) (s : Spot) (place : Place) → o ≡ Some s → HasBecome n m s.place place → tally_of spare o ≡ IN_MEMORY
+  memory_tally spare n m o s place there become =
+      ap (tally_of spare) there
+      ∙ ap (λ (q : Place). tally_of spare (Some (record s { place = q }))) become.was
+
+  memory_there : (n m : Node) (o : Option Spot) (s : Spot) (place : Place) → o ≡ Some s → HasBecome n m s.place place → IsTrue (is_in_memory o)
+  memory_there n m o s place there become =
+      ap is_in_memory there
+      ∙ ap (λ (q : Place). is_in_memory (Some (record s { place = q }))) become.was
+
+  -- both were in memory, and are
+  one_tallied : (u : Usage) (next id : ℕ) (n m : Node) (before after : Spots) (place : Place) (c : IsChangedAt u.spare id m before after) → HasBecome n m c.was.place place → id < next → IsTallied next before u → IsTallied next after u
+  one_tallied u next id n m before after place c become low was =
+      subst (λ (t : Tally). IsTallied next after (recounted t IN_MEMORY u)) (memory_tally u.spare n m (before id) c.was place c.there become)
+      (changed_tallied u u next id m before after (record { same = refl; kept = λ i on. on }) (was.listed id (memory_there n m (before id) c.was place c.there become)) c low was)
+
+  pub place_tallied : (u : Usage) (next : ℕ) → push.parent < next → push.child < next → IsTallied next spots u → IsTallied next new u
+  place_tallied u next parent_low child_low was =
+      one_tallied u next push.parent h.places.parent_was h.places.parent_is mid new h.above (then_parent u.spare) h.places.parent parent_low
+      (one_tallied u next push.child h.places.child_was h.places.child_is spots mid h.below (child_first u.spare) h.places.child child_low was)
+
+  copy_before : (n m : Node) (o : Option Spot) (s : Spot) (place : Place) → o ≡ Some s → HasBecome n m s.place place → copy_in o ≡ Some n
+  copy_before n m o s place there become = ap copy_in there ∙ ap copy_at become.was ∙ ap Some become.was_value
+
+  pub parent_copy : copy_in (spots push.parent) ≡ Some h.places.parent_was
+  parent_copy = copy_before h.places.parent_was h.places.parent_is (spots push.parent) h.parent h.above h.parent_there h.places.parent
+
+  pub child_copy : copy_in (spots push.child) ≡ Some h.places.child_was
+  child_copy = copy_before h.places.child_was h.places.child_is (spots push.child) h.child h.below h.child_there h.places.child

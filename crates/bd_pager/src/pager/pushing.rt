@@ -1,0 +1,139 @@
+//! How a pager lets messages go down.
+
+ghost use Rattle.std.specs.Prelude.{◌≡◌, ◌≤◌, IfOk, OnOk, OnErr, Some};
+ghost use Rattle.bd_message.specs.KeyMaps.{HasMapCause, NeverWorn};
+ghost use Rattle.bd_node.specs.declared.node.Node.{Node};
+ghost use Rattle.bd_node.specs.Pushes.{IsPush, CanPush, HasPushed, IsPushed};
+ghost use Rattle.bd_node.specs.Stores.{OnlyReadsBy, StaysBy};
+ghost use Rattle.bd_node.specs.Tables.{IsSound};
+ghost use Rattle.bd_pager.specs.Keeping.{KeepsSaved};
+ghost use Rattle.bd_pager.specs.Pagers.{table_of, nodes_of, spots_of, is_known, is_bad, IsReadOf};
+ghost use Rattle.bd_pager.specs.Pushing.{IsPushPlan};
+
+use super::{Pager, first_slot};
+use crate::committing::puts_of;
+use crate::pushing::{push_in_place, put_kept, waiting_in};
+use crate::stand_in::step;
+use crate::stepping::Put;
+use bd_counts::Counted;
+use bd_device::Device;
+use bd_message::MapFault;
+use bd_node::{Nodes, Push, Step};
+use bd_slots::slot_block;
+
+impl<D: Device> Pager<D> {
+    /// Lets messages go down from a private node to its private child: the commit of both changed
+    /// so, for the cost of what goes down and of a look at what else waits in the two where these
+    /// were changed before and nobody else holds them; else copies of them are changed. No visit.
+    /// `Damaged` names the first block of a slot without its node, or that of the checkpoint's table
+    /// where the messages can't go down, as the nodes aren't sound.
+    pub fn push_down(&mut self, push: Push) -> Result<(), MapFault>
+        requires push { IsPush (table_of self.old) push }
+        requires can { is_known D.Device self.old
+            → IsSound (nodes_of D.Device self.old) (table_of self.old)
+            → CanPush (nodes_of D.Device self.old) (table_of self.old) push }
+        ensures table { OnOk result (HasPushed (table_of self.old) push (table_of self.new)) }
+        ensures committed { is_known D.Device self.old
+            → IsSound (nodes_of D.Device self.old) (table_of self.old)
+            → (parent child : Node) → nodes_of D.Device self.old push.parent ≡ Some parent
+            → nodes_of D.Device self.old push.child ≡ Some child
+            → OnOk result (IsPushed (nodes_of D.Device self.old) (table_of self.old) push
+            parent child (nodes_of D.Device self.new) (table_of self.new)) }
+        ensures stays { StaysBy (is_known D.Device) (KeepsSaved D.Device) (λ _. [])
+            self.old self.new }
+        ensures err { OnErr result (OnlyReadsBy (is_known D.Device) (nodes_of D.Device) table_of
+            (IsReadOf D.Device) (λ _. []) self.old self.new) }
+        ensures visits { self.new.visits ≡ self.old.visits }
+        ensures cause { HasMapCause (D.fault_count self.old.dev) (D.fault_count self.new.dev)
+            (is_bad D.Device self.new) NeverWorn result }
+    {
+        match push_in_place(self.alloc, &mut self.reader.spots, push) {
+            Ok(None) => {}
+            Ok(Some(push)) => return self.push_copies(push),
+            Err(_) => return Err(MapFault::NoMemory),
+        }
+        self.size = waiting_in(&self.reader.spots, self.root);
+        self.written = None;
+        Ok(())
+    }
+
+    // The same, of copies of both nodes.
+    fn push_copies(&mut self, push: Push) -> Result<(), MapFault>
+        requires push { IsPush (table_of self.old) push }
+        requires can { is_known D.Device self.old
+            → IsSound (nodes_of D.Device self.old) (table_of self.old)
+            → CanPush (nodes_of D.Device self.old) (table_of self.old) push }
+        ensures table { OnOk result (HasPushed (table_of self.old) push (table_of self.new)) }
+        ensures committed { is_known D.Device self.old
+            → IsSound (nodes_of D.Device self.old) (table_of self.old)
+            → (parent child : Node) → nodes_of D.Device self.old push.parent ≡ Some parent
+            → nodes_of D.Device self.old push.child ≡ Some child
+            → OnOk result (IsPushed (nodes_of D.Device self.old) (table_of self.old) push
+            parent child (nodes_of D.Device self.new) (table_of self.new)) }
+        ensures stays { StaysBy (is_known D.Device) (KeepsSaved D.Device) (λ _. [])
+            self.old self.new }
+        ensures err { OnErr result (OnlyReadsBy (is_known D.Device) (nodes_of D.Device) table_of
+            (IsReadOf D.Device) (λ _. []) self.old self.new) }
+        ensures visits { self.new.visits ≡ self.old.visits }
+        ensures cause { HasMapCause (D.fault_count self.old.dev) (D.fault_count self.new.dev)
+            (is_bad D.Device self.new) NeverWorn result }
+    {
+        let (parent, child) = (push.parent, push.child);
+        let puts = match self.push_plan(push) {
+            Ok(puts) => puts,
+            Err(fault) => return Err(fault),
+        };
+        match put_kept(
+            &mut self.reader.spots,
+            &mut self.reader.cache,
+            &mut self.usage,
+            puts,
+        ) {
+            Ok(()) => {}
+            Err(_) => return Err(MapFault::NoMemory),
+        }
+        self.reader.tested.forget(parent);
+        self.reader.tested.forget(child);
+        self.size = waiting_in(&self.reader.spots, self.root);
+        self.written = None;
+        Ok(())
+    }
+
+    // The changed copies that are to be put for both nodes, read and in memory that is taken.
+    fn push_plan(&mut self, push: Push) -> Result<Vec<Put>, MapFault>
+        requires push { IsPush (table_of self.old) push }
+        requires can { is_known D.Device self.old
+            → IsSound (nodes_of D.Device self.old) (table_of self.old)
+            → CanPush (nodes_of D.Device self.old) (table_of self.old) push }
+        ensures plan { IfOk result (λ puts. IsPushPlan (D.contents self.old.dev)
+            (spots_of self.old) (table_of self.old).root push puts.items) }
+        ensures left { OnlyReadsBy (is_known D.Device) (nodes_of D.Device) table_of
+            (IsReadOf D.Device) (λ _. []) self.old self.new }
+        ensures visits { self.new.visits ≡ self.old.visits }
+        ensures cause { HasMapCause (D.fault_count self.old.dev) (D.fault_count self.new.dev)
+            (is_bad D.Device self.new) NeverWorn result }
+    {
+        let parent = match Counted::find(self, push.parent) {
+            Ok(node) => node,
+            Err(fault) => return Err(fault),
+        };
+        let child = match Counted::find(self, push.child) {
+            Ok(node) => node,
+            Err(fault) => return Err(fault),
+        };
+        let found = match step(push, self.alloc, self.root, &parent, &child) {
+            Ok(found) => found,
+            Err(_) => return Err(MapFault::NoMemory),
+        };
+        let Some(step) = found else {
+            return Err(MapFault::Damaged {
+                block: slot_block(first_slot(self.at.as_slice())),
+            });
+        };
+        let Step { made, changes, .. } = step;
+        match puts_of(self.alloc, self.next, made, changes) {
+            Ok(puts) => Ok(puts),
+            Err(_) => Err(MapFault::NoMemory),
+        }
+    }
+}
