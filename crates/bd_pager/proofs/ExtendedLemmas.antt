@@ -167,7 +167,7 @@ with_both spare (x ∷ xs) ys id o = elim (cases_eq id x.id) [
       ∙ sym (ap (λ (p : Option (Rc Node Global)). with_put spare p o) (cond-false (eqb id x.id) (Some x.node) (put_at (xs ++ ys) id) (ne_eqb id x.id other)))
 ]
 
-copied_there : (image : Image) (o : Option Spot) (n : Node) → copy_in o ≡ Some n → node_of image o ≡ Some n
+pub copied_there : (image : Image) (o : Option Spot) (n : Node) → copy_in o ≡ Some n → node_of image o ≡ Some n
 copied_there image None n copy = absurd (none-some n copy)
 copied_there image (Some s) n copy = copy_at_place image s.place n copy
 
@@ -176,7 +176,7 @@ unmoved : (b : Bool) (o : Option Spot) → cond b (with_copy None o) (cond b (wi
 unmoved true o = refl
 unmoved false o = refl
 
-read_spot : (contents : Option Image) (is_lent : Bool) (o : Option Spot) (n : Node) → IsRead contents is_lent o n → (s : Spot) × (o ≡ Some s)
+pub read_spot : (contents : Option Image) (is_lent : Bool) (o : Option Spot) (n : Node) → IsRead contents is_lent o n → (s : Spot) × (o ≡ Some s)
 read_spot contents is_lent None n read = absurd read
 read_spot contents is_lent (Some s) n read = (s, refl)
 

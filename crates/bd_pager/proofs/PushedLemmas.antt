@@ -1,12 +1,12 @@
 -- A pager in which messages went down from a node to its child.
-use Rattle.std.proofs.Common.{◌≡◌, ◌≢◌, ℕ, ◌+◌, ◌-◌, ◌<◌, ◌≤◌, ◌⊎◌, Bool, true, cond, eqb, nat_eq, is_some, IsTrue, List, [], ◌∷◌, map, Option, None, Some, IfSome, refl, sym, ap, subst, ◌∙◌, arith, inl, inr}
-use Rattle.std.specs.Prelude.{IsSome}
+use Rattle.std.proofs.Common.{◌≡◌, ◌≢◌, ℕ, ◌+◌, ◌-◌, ◌<◌, ◌≤◌, ◌⊎◌, Bool, true, false, cond, eqb, nat_eq, is_some, IsTrue, List, [], ◌∷◌, map, Option, None, Some, IfSome, refl, sym, ap, subst, ◌∙◌, arith, inl, inr}
+use Rattle.std.specs.Prelude.{IsSome, MatchOption}
 use Rattle.std.specs.Global.{Global}
 use Rattle.std.specs.List.{AllByRecursion}
 use Rattle.std.specs.Map.{lookup}
 use Rattle.std.specs.Option.{option_map}
 use Rattle.std.specs.declared.rc.Rc.{Rc}
-use Rattle.std.proofs.lemmas.Bool.{cases_eq, cases_lt, cond-true, cond-false, eq-eqb, ne_eqb}
+use Rattle.std.proofs.lemmas.Bool.{cases_eq, cases_lt, cond-true, cond-false, eq-eqb, ne_eqb, true≢false}
 use Rattle.std.proofs.lemmas.Option.{none-some, same_Some}
 use Rattle.bd_device.specs.Blocks.{Image}
 use Rattle.bd_device.specs.declared.device.Device.{Ghosts}
@@ -19,7 +19,7 @@ use Rattle.bd_node.specs.declared.node.Step.{Step}
 use Rattle.bd_node.specs.declared.push.Gain.{Gain}
 use Rattle.bd_node.specs.declared.push.Gain.TheVariants.{Messages, Entries}
 use Rattle.bd_node.specs.declared.push.Push.{Push}
-use Rattle.bd_node.specs.Nodes.{level_of, names}
+use Rattle.bd_node.specs.Nodes.{level_of, buffer_size, names, appended}
 use Rattle.bd_node.specs.Meaning.{Nodes}
 use Rattle.bd_node.specs.Parts.{IsEdgeAt}
 use Rattle.bd_node.specs.Pushes.{IsRelieved, gained, push_step, IsGain, HasRoomFor, CanMake, IsPush, CanPush, IsPushStep, HasPushed, IsPushed}
@@ -40,22 +40,22 @@ use Rattle.bd_pager.specs.Calling.{read_keeps, keeps_both}
 use Rattle.bd_pager.specs.Changing.{own_slot, IsChangedPlace, IsChangedSpot, IsChangedAt}
 use Rattle.bd_pager.specs.Counting.{is_in_memory, tally_of, recounted, IsTallied}
 use Rattle.bd_pager.specs.Keeping.{KeepsSaved}
-use Rattle.bd_pager.specs.Places.{Spots, level_in, copy_at, copy_in, nodes_at, IsLowerIn, IsRead, AreCached, ArePlaced}
-use Rattle.bd_pager.specs.Pagers.{Paged, spots_of, table_of, nodes_of, IsKnownOver, is_known, IsOfSize, IsPaged}
+use Rattle.bd_pager.specs.Places.{Spots, refs_in, level_in, copy_at, copy_in, told, ArePlaced, IsLowerIn}
+use Rattle.bd_pager.specs.Pagers.{Paged, spots_of, table_of, nodes_of, is_known, IsOfSize, IsPaged}
 use Rattle.bd_pager.specs.Pushing.{placed_at, with_places, HasBecome, ArePlacesPushed, IsPushedInPlace, IsReadAs, IsPushPlan}
 use Rattle.bd_pager.specs.Slots.{IsOfLevel}
 use Rattle.bd_pager.specs.Stepping.{held, change_of, put_at, put_spot, with_put}
 use Rattle.bd_pager.specs.Testing.{Marks, is_tested, NamesLower, AreTested}
 use Rattle.bd_pager.proofs.AlteredLemmas.{WasChanged, AreChanged, copy_given, altered, altered_paged, altered_tested, altered_table, altered_stays, altered_nodes, altered_count}
 use Rattle.bd_pager.proofs.CountingLemmas.{changed_tallied}
-use Rattle.bd_pager.proofs.FreshLemmas.{copy_at_place}
+use Rattle.bd_pager.proofs.ExtendedLemmas.{copied_there, read_spot}
 use Rattle.bd_pager.proofs.PagerLemmas.{kept_there}
 use Rattle.bd_pager.proofs.PuttingLemmas.{put_is}
-use Rattle.bd_pager.proofs.ReaderLemmas.{copied_unread}
+use Rattle.bd_pager.proofs.ReaderLemmas.{copy_of_level}
 use Rattle.bd_pager.proofs.StandIns.{relieved_level, relieved_shape, relieved_names, pushed_after}
 use Rattle.bd_pager.proofs.SteppedLemmas.{none_mapped}
-use Rattle.bd_pager.proofs.StepsLemmas.{OnlyReadsOf, no_loans}
-use Rattle.bd_pager.proofs.TestedLemmas.{some_at}
+use Rattle.bd_pager.proofs.StepsLemmas.{OnlyReadsOf, no_loans, each_mapped}
+use Rattle.bd_pager.proofs.TestedLemmas.{copy_unread, some_at, spot_of_some}
 
 -- ---- places that are taken and put back
 
@@ -121,6 +121,71 @@ places_own old parent child above below own_above own_below i = elim (cases_eq p
       ]
 ]
 
+-- a place that was taken is its spot's
+taken_from : (spots : Spots) (id : ℕ) (place : Place) → IsSome (spots id) → IfSome (spots id) (λ s. place ≡ s.place) → (s : Spot) × (spots id ≡ Some s) × (place ≡ s.place)
+taken_from spots id place some at =
+    let old = spot_of_some (spots id) some in
+    (old.0, old.1, subst (λ (o : Option Spot). IfSome o (λ s. place ≡ s.place)) old.1 at)
+
+level_kept : (level : ℕ) (o : Option Node) (gain : Gain) → IfSome o (IsOfLevel level) → IsGain level gain → IfSome o (λ m. IsGain (level_of m) gain)
+level_kept level None gain own is = tt
+level_kept level (Some m) gain own is = subst (λ (l : ℕ). IsGain l gain) (sym own.level_is) is
+
+shape_kept : (level : ℕ) (o : Option Node) → IfSome o (IsOfLevel level) → IfSome o IsShape
+shape_kept level None own = tt
+shape_kept level (Some m) own = own.shape
+
+taken_own : (spots : Spots) (id : ℕ) (place : Place) (s : Spot) → ArePlaced spots → spots id ≡ Some s → place ≡ s.place → IfSome (copy_at place) (IsOfLevel s.level)
+taken_own spots id place s placed there same = subst (λ (l : Place). IfSome (copy_at l) (IsOfLevel s.level)) (sym same) (placed id s there)
+
+pub taken_shape : (spots : Spots) (id : ℕ) (place : Place) → IsSome (spots id) → IfSome (spots id) (λ s. place ≡ s.place) → ArePlaced spots → IfSome (copy_at place) IsShape
+taken_shape spots id place some at placed =
+    let from = taken_from spots id place some at in
+    shape_kept from.0.level (copy_at place) (taken_own spots id place from.0 placed from.1 from.2)
+
+pub taken_gain : (spots : Spots) (id : ℕ) (place : Place) (gain : Gain) → IsSome (spots id) → IfSome (spots id) (λ s. place ≡ s.place) → ArePlaced spots → IfSome (spots id) (λ s. IsGain s.level gain) → IfSome (copy_at place) (λ m. IsGain (level_of m) gain)
+taken_gain spots id place gain some at placed is =
+    let from = taken_from spots id place some at in
+    level_kept from.0.level (copy_at place) gain (taken_own spots id place from.0 placed from.1 from.2) (subst (λ (o : Option Spot). IfSome o (λ s. IsGain s.level gain)) from.1 is)
+
+-- the place of the child, from which that of the parent was taken first
+pub taken_second : (spots first : Spots) (parent child : ℕ) (gap place : Place) → parent ≢ child → ((i : ℕ) → first i ≡ cond (eqb parent i) (placed_at gap (spots parent)) (spots i))
+    → IfSome (first child) (λ s. place ≡ s.place) → IfSome (spots child) (λ s. place ≡ s.place)
+taken_second spots first parent child gap place apart one at =
+    subst (λ (o : Option Spot). IfSome o (λ s. place ≡ s.place)) (one child ∙ other_at parent child (placed_at gap (spots parent)) (spots child) apart) at
+
+-- what is so of the places is so of the spots once they are put back
+module _ (push : Push) (old first second third last : Spots) (gap above below new_above new_below : Place) (apart : push.parent ≢ push.child)
+    (one : (i : ℕ) → first i ≡ cond (eqb push.parent i) (placed_at gap (old push.parent)) (old i)) (two : (i : ℕ) → second i ≡ cond (eqb push.child i) (placed_at gap (first push.child)) (first i))
+    (three : (i : ℕ) → third i ≡ cond (eqb push.child i) (placed_at new_below (second push.child)) (second i)) (four : (i : ℕ) → last i ≡ cond (eqb push.parent i) (placed_at new_above (third push.parent)) (third i))
+    (some_parent : IsSome (old push.parent)) (some_child : IsSome (old push.child)) (from_parent : IfSome (old push.parent) (λ s. above ≡ s.place)) (from_child : IfSome (old push.child) (λ s. below ≡ s.place)) where
+  put_places : (i : ℕ) → last i ≡ with_places push.parent new_above push.child new_below old i
+  put_places = places_put old first second third last push.parent push.child gap new_above new_below apart one two three four
+
+  pub put_same : (new_above ≡ above) × (new_below ≡ below) → (i : ℕ) → last i ≡ old i
+  put_same same i =
+      put_places i
+      ∙ places_own old push.parent push.child new_above new_below
+      (subst (λ (l : Place). IfSome (old push.parent) (λ s. l ≡ s.place)) (sym same.0) from_parent)
+      (subst (λ (l : Place). IfSome (old push.child) (λ s. l ≡ s.place)) (sym same.1) from_child) i
+
+  pub put_pushed : (left : Option Push) → MatchOption left (ArePlacesPushed push above below new_above new_below) (λ p. (p ≡ push) × (new_above ≡ above) × (new_below ≡ below))
+      → MatchOption left (IsPushedInPlace push old last) (λ p. (p ≡ push) × ((i : ℕ) → last i ≡ old i))
+  put_pushed None made =
+      let upper = taken_from old push.parent above some_parent from_parent in
+      let lower = taken_from old push.child below some_child from_child in
+      record {
+        parent = upper.0;
+        parent_there = upper.1;
+        child = lower.0;
+        child_there = lower.1;
+        above = new_above;
+        below = new_below;
+        places = subst (λ (l : Place). ArePlacesPushed push l lower.0.place new_above new_below) upper.2 (subst (λ (l : Place). ArePlacesPushed push above l new_above new_below) lower.2 made);
+        is = put_places;
+      }
+  put_pushed (Some p) made = (made.0, put_same (made.1, made.2))
+
 -- ---- what the step gives
 
 module _ (next root parent child : ℕ) (above below : Node) (parent_low : parent < next) (child_low : child < next) (apart : parent ≢ child) where
@@ -175,19 +240,20 @@ module _ (next root parent child : ℕ) (above below : Node) (parent_low : paren
 -- ---- what the two nodes are then
 
 gained_own : (level : ℕ) (m : Node) (gain : Gain) → IsOfLevel level m → IsGain level gain → HasRoomFor m gain → IsOfLevel level (gained m gain)
-gained_own level m (Messages list) own is room = record { shape = shape_appended m list own.shape is.1.0 room; level_is = level_appended m list ∙ own.level_is }
+gained_own level m (Messages list) own is room = record { shape = shape_appended m list own.shape is.1 room; level_is = level_appended m list ∙ own.level_is }
 gained_own level m (Entries entries) own is room = record { shape = is.1; level_is = sym is.0 }
 
 gained_names : (spots : Spots) (level : ℕ) (m : Node) (gain : Gain) → IsGain level gain → NamesLower spots m → NamesLower spots (gained m gain)
 gained_names spots level m (Messages list) is lower =
-    subst (λ (ids : List ℕ). AllByRecursion (λ id. IsLower (level_of (gained m (Messages list))) id) ids) (sym (names_appended m list is.1.1))
-    (subst (λ (l : ℕ). AllByRecursion (λ id. IsLower l id) (names m)) (sym (level_appended m list)) lower)
-  where
-    abbrev IsLower : ℕ → ℕ → Type 0
-    IsLower l id = IsLowerIn spots l id
+    subst (λ (ids : List ℕ). AllByRecursion (IsLowerIn spots (level_of (appended m list))) ids) (sym (names_appended m list is.2))
+    (subst (λ (l : ℕ). AllByRecursion (IsLowerIn spots l) (names m)) (sym (level_appended m list)) lower)
 gained_names spots level m (Entries entries) is lower = tt
 
 -- ---- the pager
+
+size_of_copy : (size : ℕ) (o : Option Node) (n : Node) → IsOfSize size o → IfSome o (λ m. n ≡ m) → buffer_size n ≡ size
+size_of_copy size None n sized same = absurd sized
+size_of_copy size (Some m) n sized same = ap buffer_size same ∙ sized
 
 -- all that holds then
 pub record HasMadePush {D : Type 0} (g : Ghosts D) (p : Paged D) (push : Push) (new : Paged D) : Type 0 where
@@ -280,6 +346,7 @@ module _ {D : Type 0} (g : Ghosts D) (p : Paged D) (push : Push) (parent child a
               child = child;
               parent_level = parent_own.of_level.level_is;
               child_level = child_own.of_level.level_is;
+              root_size = λ same. size_of_copy p.size (copy_in (spots_of p p.root)) parent was.root (subst (λ (k : ℕ). IfSome (copy_in (spots_of p k)) (λ m. parent ≡ m)) same parent_own.copy);
               step = taken;
               makes = makes;
               table = table;
@@ -294,6 +361,7 @@ module _ {D : Type 0} (g : Ghosts D) (p : Paged D) (push : Push) (parent child a
                 (subst (λ (y : Node). IsPushed (nodes_of g p) (table_of p) push parent y (nodes_of g pushed) (table_of pushed)) same_child (record {
                   step = taken;
                   makes = makes;
+                  table = table;
                   committed = pushed_after (nodes_of g p) (nodes_of g pushed) (table_of p) (table_of pushed) push parent child taken sound is parent_there child_there can makes
                       (altered_nodes g p taken entries bytes cache was h own_given sized cached) table
                       (altered_count g p taken entries bytes cache was h own_given sized cached);
@@ -324,7 +392,7 @@ become_changed : (spare : List Bool) (n m : Node) (s : Spot) (new : Place) → H
 become_changed spare n m s new h = record {
   refs = refl;
   level = refl;
-  place = record { node = h.then; value = h.is_value; place = h.is ∙ ap (Memory h.then) (sym (ap (own_slot spare) h.was)) };
+  place = record { node = h.changed; value = h.is_value; place = h.is ∙ ap (Memory h.changed) (sym (ap (own_slot spare) h.was)) };
 }
 
 module _ (push : Push) (spots new : Spots) (h : IsPushedInPlace push spots new) (apart : push.parent ≢ push.child) where
@@ -410,6 +478,7 @@ module _ (push : Push) (spots new : Spots) (h : IsPushedInPlace push spots new) 
       (changed_tallied u u next id m before after (record { same = refl; kept = λ i on. on }) (was.listed id (memory_there n m (before id) c.was place c.there become)) c low was)
 
   pub place_tallied : (u : Usage) (next : ℕ) → push.parent < next → push.child < next → IsTallied next spots u → IsTallied next new u
+  unfolding then_parent child_first
   place_tallied u next parent_low child_low was =
       one_tallied u next push.parent h.places.parent_was h.places.parent_is mid new h.above (then_parent u.spare) h.places.parent parent_low
       (one_tallied u next push.child h.places.child_was h.places.child_is spots mid h.below (child_first u.spare) h.places.child child_low was)
@@ -422,3 +491,179 @@ module _ (push : Push) (spots new : Spots) (h : IsPushedInPlace push spots new) 
 
   pub child_copy : copy_in (spots push.child) ≡ Some h.places.child_was
   child_copy = copy_before h.places.child_was h.places.child_is (spots push.child) h.child h.below h.child_there h.places.child
+
+-- the pager after it
+module _ {D : Type 0} (g : Ghosts D) (p : Paged D) (push : Push) (entries : List (ℕ × Spot)) (was : IsPaged (g.contents p.dev) p) (is : IsPush (table_of p) push)
+    (h : IsPushedInPlace push (spots_of p) (λ id. lookup (nat_eq id) entries)) where
+  abbrev parent : Node
+  parent = h.places.parent_was
+
+  abbrev child : Node
+  child = h.places.child_was
+
+  apart : push.parent ≢ push.child
+  apart e = omega (arith, is.lower, ap (table_of p).level e)
+
+  of_parent : copy_in (spots_of p push.parent) ≡ Some parent
+  of_parent = parent_copy push (spots_of p) (λ id. lookup (nat_eq id) entries) h apart
+
+  of_child : copy_in (spots_of p push.child) ≡ Some child
+  of_child = child_copy push (spots_of p) (λ id. lookup (nat_eq id) entries) h apart
+
+  read_copy : (id : ℕ) (n : Node) → copy_in (spots_of p id) ≡ Some n → IsReadAs (g.contents p.dev) (spots_of p) id n
+  read_copy id n copy = record { of_level = copy_of_level (spots_of p) id n was.placed copy; copy = subst (λ (o : Option Node). IfSome o (λ m. n ≡ m)) (sym copy) refl; there = λ known. copied_there (told (g.contents p.dev)) (spots_of p id) n copy }
+
+  parent_as : IsReadAs (g.contents p.dev) (spots_of p) push.parent parent
+  parent_as = read_copy push.parent parent of_parent
+
+  child_as : IsReadAs (g.contents p.dev) (spots_of p) push.child child
+  child_as = read_copy push.child child of_child
+
+  abbrev made_step : Step
+  made_step = push_step p.root push.parent h.places.parent_is push.child (gained child push.gain)
+
+  moved : AreChanged p.spare (λ id. given p.next made_step id) (spots_of p) (λ id. lookup (nat_eq id) entries)
+  moved = subst (λ (m : Node). AreChanged p.spare (λ id. given p.next (push_step p.root push.parent h.places.parent_is push.child m) id) (spots_of p) (λ id. lookup (nat_eq id) entries)) h.places.nodes.gained
+      (place_changed push (spots_of p) (λ id. lookup (nat_eq id) entries) h apart p.spare p.next p.root (was.table.below push.parent is.parent) (was.table.below push.child is.child))
+
+  pub place_root : IfSome (copy_in (lookup (nat_eq p.root) entries)) IsShape
+  place_root = root_shape g p push parent child h.places.parent_is entries was is parent_as child_as h.places.nodes.can h.places.nodes.relieved moved
+
+  uncached : (id : ℕ) (n : Node) → kept_at p.cache id ≡ Some n → (kept_at p.cache id ≡ Some n) × (given p.next made_step id ≡ None)
+  uncached id n kept =
+      let unread : (k : ℕ) (m : Node) → copy_in (spots_of p k) ≡ Some m → id ≡ k → ⊥ = λ k m copy same.
+      copy_unread (g.contents p.dev) p.is_lent (spots_of p id) m n (ap (λ (i : ℕ). copy_in (spots_of p i)) same ∙ copy) (was.cached id n kept) in (
+        kept,
+        by_given (given p.next made_step id ≡ None) (given p.next made_step id) (λ none. none)
+            (λ m some. absurd (elim (gives_both p.next p.root push.parent push.child h.places.parent_is (gained child push.gain) (was.table.below push.parent is.parent) (was.table.below push.child is.child) apart id m some) as (λ _. ⊥) [
+              | inl it ↦ unread push.child child of_child it.0
+              | inr it ↦ unread push.parent parent of_parent it.0
+            ])),
+      )
+
+  module _ (bytes : ℕ) (sized : IsSome (copy_in (lookup (nat_eq p.root) entries)) → IsOfSize bytes (copy_in (lookup (nat_eq p.root) entries))) where
+    pub place_paged : IsPaged (g.contents p.dev) (record p { spots = entries; size = bytes; written = None })
+    place_paged = pushed_paged g p push parent child h.places.parent_is entries was is parent_as child_as h.places.nodes.can h.places.nodes.relieved moved bytes p.cache sized uncached
+
+    pub place_made : HasMadePush g p push (record p { spots = entries; size = bytes; written = None })
+    place_made = has_made g p push parent child h.places.parent_is entries was is parent_as child_as h.places.nodes.can h.places.nodes.relieved moved bytes p.cache sized uncached
+
+    pub place_tested : (marks : Marks) → AreTested (spots_of p) p.cache marks → AreTested (λ id. lookup (nat_eq id) entries) p.cache marks
+    place_tested marks are =
+        pushed_tested g p push parent child h.places.parent_is entries was is parent_as child_as h.places.nodes.can h.places.nodes.relieved moved bytes p.cache sized uncached marks marks (λ id on. on)
+        (λ on. some_at (NamesLower (spots_of p)) (copy_in (spots_of p push.parent)) parent of_parent (are push.parent on).copy)
+        (λ on. some_at (NamesLower (spots_of p)) (copy_in (spots_of p push.child)) child of_child (are push.child on).copy) are
+
+  pub spots_tallied : (u : Usage) → IsTallied p.next (spots_of p) u → IsTallied p.next (λ id. lookup (nat_eq id) entries) u
+  spots_tallied u was_tallied =
+      place_tallied push (spots_of p) (λ id. lookup (nat_eq id) entries) h apart u p.next (was.table.below push.parent is.parent) (was.table.below push.child is.child) was_tallied
+
+-- ---- by copies
+
+some_held : (o : Option (Rc Node Global)) (n : Node) → option_map held o ≡ Some n → (r : Rc Node Global) × (o ≡ Some r) × (r.value ≡ n)
+some_held None n is = absurd (none-some n is)
+some_held (Some r) n is = (r, refl, same_Some r.value n is)
+
+unput : (b : Bool) (o : Option Node) (n : Node) → cond b None o ≡ Some n → (b ≡ false) × (o ≡ Some n)
+unput true o n kept = absurd (none-some n kept)
+unput false o n kept = (refl, kept)
+
+none_put : (o : Option (Rc Node Global)) → is_some o ≡ false → option_map held o ≡ None
+none_put None is = refl
+none_put (Some r) is = absurd (let e : true ≡ false = is in cc)
+
+module _ (spare : List Bool) (puts : List Put) (spots new : Spots) (each : (id : ℕ) → new id ≡ with_put spare (put_at puts id) (spots id)) where
+  put_changed : (id : ℕ) (n : Node) → changed_at (map change_of puts) id ≡ Some n → IsSome (spots id) → level_of n ≡ level_in (spots id) → WasChanged spare id n spots new
+  put_changed id n changes some level =
+      let put = some_held (put_at puts id) n (put_is puts id ∙ changes) in
+      let old = spot_of_some (spots id) some in
+      record {
+        was = old.0;
+        there = old.1;
+        now = put_spot spare put.0 (Some old.0);
+        here = each id ∙ ap (λ (o : Option (Rc Node Global)). with_put spare o (spots id)) put.1 ∙ ap (λ (o : Option Spot). with_put spare (Some put.0) o) old.1;
+        changed = record {
+          refs = refl;
+          level = ap level_of put.2 ∙ level ∙ ap level_in old.1;
+          place = record { node = put.0; value = put.2; place = refl };
+        };
+      }
+
+  put_stays : (id : ℕ) → changed_at (map change_of puts) id ≡ None → new id ≡ spots id
+  put_stays id none = each id ∙ ap (λ (o : Option (Rc Node Global)). with_put spare o (spots id)) (none_mapped (put_at puts id) (put_is puts id ∙ none))
+
+module _ {D : Type 0} (g : Ghosts D) (p : Paged D) (push : Push) (puts : List Put) (entries : List (ℕ × Spot)) (was : IsPaged (g.contents p.dev) p) (is : IsPush (table_of p) push)
+    (plan : IsPushPlan (g.contents p.dev) (spots_of p) p.root push puts) where
+  abbrev above : Node
+  above = plan.makes.above
+
+  abbrev below : Node
+  below = gained plan.child push.gain
+
+  abbrev copies : Step
+  copies = push_step p.root push.parent above push.child below
+
+  two : push.parent ≢ push.child
+  two e = omega (arith, is.lower, ap (table_of p).level e)
+
+  changes_are : map change_of puts ≡ copies.changes
+  changes_are = plan.puts_are ∙ ap (λ (s : Step). s.changes) plan.makes.is
+
+  pub copies_low : AllByRecursion (λ (put : Put). put.id < p.next) puts
+  copies_low =
+      each_mapped (λ (c : Change). c.id < p.next) change_of puts
+      (subst (λ (cs : List Change). AllByRecursion (λ (c : Change). c.id < p.next) cs) (sym changes_are)
+      (was.table.below push.child is.child, (was.table.below push.parent is.parent, tt)))
+
+  relieved_so : IsRelieved plan.parent push.place plan.can.relieve.edge push.count above
+  relieved_so = subst (λ (e : Edge). IsRelieved plan.parent push.place e push.count above) (same_Some plan.makes.edge plan.can.relieve.edge (sym plan.makes.here ∙ plan.can.relieve.here)) plan.makes.relieved
+
+  gives_of : (id : ℕ) → id < p.next → given p.next copies id ≡ changed_at (map change_of puts) id
+  gives_of id low = given-old p.next copies id low ∙ ap (λ (cs : List Change). changed_at cs id) (sym changes_are)
+
+  module _ (each : (id : ℕ) → lookup (nat_eq id) entries ≡ with_put p.spare (put_at puts id) (spots_of p id)) where
+    abbrev spots : Spots
+    spots id = lookup (nat_eq id) entries
+
+    own : (id : ℕ) (n : Node) → given p.next copies id ≡ Some n → IsOfLevel (level_in (spots_of p id)) n
+    own = own_given g p push plan.parent plan.child above entries was is plan.parent_read plan.child_read plan.can relieved_so
+
+    changed_so : (id : ℕ) (n : Node) → id < p.next → IsKept (table_of p) id → given p.next copies id ≡ Some n → WasChanged p.spare id n (spots_of p) spots
+    changed_so id n low kept some =
+        put_changed p.spare puts (spots_of p) spots each id n (sym (gives_of id low) ∙ some) (kept_there (spots_of p) id kept) (own id n some).level_is
+
+    copied : AreChanged p.spare (λ id. given p.next copies id) (spots_of p) spots
+    copied =
+        changed_both p.next p.root push.parent push.child above below (was.table.below push.parent is.parent) (was.table.below push.child is.child) two p.spare (spots_of p) spots
+        (changed_so push.child below (was.table.below push.child is.child) is.child
+        (gives_child p.next p.root push.parent push.child above below (was.table.below push.parent is.parent) (was.table.below push.child is.child) two))
+        (changed_so push.parent above (was.table.below push.parent is.parent) is.parent
+        (gives_parent p.next p.root push.parent push.child above below (was.table.below push.parent is.parent) (was.table.below push.child is.child) two))
+        (λ id off_child off_parent. put_stays p.spare puts (spots_of p) spots each id
+        (ap (λ (cs : List Change). changed_at cs id) changes_are
+        ∙ changed_at-other (record { id = push.child; node = below }) (record { id = push.parent; node = above } ∷ []) id off_child
+        ∙ changed_at-other (record { id = push.parent; node = above }) [] id off_parent))
+
+    pub copies_root : IfSome (copy_in (lookup (nat_eq p.root) entries)) IsShape
+    copies_root = root_shape g p push plan.parent plan.child above entries was is plan.parent_read plan.child_read plan.can relieved_so copied
+
+    module _ (bytes : ℕ) (cache : NodeCache) (sized : IsSome (copy_in (lookup (nat_eq p.root) entries)) → IsOfSize bytes (copy_in (lookup (nat_eq p.root) entries)))
+        (forgotten : (id : ℕ) → kept_at cache id ≡ cond (is_some (put_at puts id)) None (kept_at p.cache id)) where
+      uncached_so : (id : ℕ) (n : Node) → kept_at cache id ≡ Some n → (kept_at p.cache id ≡ Some n) × (given p.next copies id ≡ None)
+      uncached_so id n kept =
+          let still = unput (is_some (put_at puts id)) (kept_at p.cache id) n (sym (forgotten id) ∙ kept) in
+          let spot = read_spot (g.contents p.dev) p.is_lent (spots_of p id) n (was.cached id n still.1) in
+          let low : id < p.next = was.table.below id (omega (arith, was.used id spot.0 spot.1, ap refs_in spot.1)) in
+          (still.1, gives_of id low ∙ sym (put_is puts id) ∙ none_put (put_at puts id) still.0)
+
+      pub copies_paged : IsPaged (g.contents p.dev) (record p { spots = entries; size = bytes; cache = cache; written = None })
+      copies_paged = pushed_paged g p push plan.parent plan.child above entries was is plan.parent_read plan.child_read plan.can relieved_so copied bytes cache sized uncached_so
+
+      pub copies_made : HasMadePush g p push (record p { spots = entries; size = bytes; cache = cache; written = None })
+      copies_made = has_made g p push plan.parent plan.child above entries was is plan.parent_read plan.child_read plan.can relieved_so copied bytes cache sized uncached_so
+
+      pub copies_tested : (marks now : Marks) → ((id : ℕ) → IsTrue (is_tested now id) → IsTrue (is_tested marks id)) → is_tested now push.parent ≡ false → is_tested now push.child ≡ false
+          → AreTested (spots_of p) p.cache marks → AreTested (λ id. lookup (nat_eq id) entries) cache now
+      copies_tested marks now fewer off_parent off_child =
+          pushed_tested g p push plan.parent plan.child above entries was is plan.parent_read plan.child_read plan.can relieved_so copied bytes cache sized uncached_so marks now fewer
+          (λ on. absurd (true≢false (sym on ∙ off_parent))) (λ on. absurd (true≢false (sym on ∙ off_child)))

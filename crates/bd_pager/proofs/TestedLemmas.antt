@@ -24,7 +24,7 @@ use Rattle.bd_pager.proofs.ReaderLemmas.{copied_unread}
 
 -- ---- a copy in memory
 
-copy_unread : (contents : Option Image) (is_lent : Bool) (o : Option Spot) (n m : Node) → copy_in o ≡ Some n → IsRead contents is_lent o m → ⊥
+pub copy_unread : (contents : Option Image) (is_lent : Bool) (o : Option Spot) (n m : Node) → copy_in o ≡ Some n → IsRead contents is_lent o m → ⊥
 copy_unread contents is_lent None n m copy read = read
 copy_unread contents is_lent (Some s) n m copy read = copied_unread contents is_lent s.level s.place n m copy read
 

@@ -1,5 +1,5 @@
 -- What a push leaves of what is known of nodes.
-use Rattle.std.specs.Prelude.{◌≡◌, ◌==◌, ℕ, if◌then◌else◌, map, Option, None, Some, List}
+use Rattle.std.specs.Prelude.{◌≡◌, ◌==◌, ℕ, if◌then◌else◌, map, Option, None, Some, IfSome, List}
 use Rattle.std.specs.Global.{Global}
 use Rattle.std.specs.declared.rc.Rc.{Rc}
 use Rattle.bd_device.specs.Blocks.{Image}
@@ -12,7 +12,7 @@ use Rattle.bd_pager.specs.declared.place.Place.TheVariants.{Memory, Slot}
 use Rattle.bd_pager.specs.declared.place.Spot.{Spot}
 use Rattle.bd_pager.specs.declared.stepping.Put.{Put}
 use Rattle.bd_pager.specs.Pagers.{IsKnownOver}
-use Rattle.bd_pager.specs.Places.{Spots, level_in, nodes_at}
+use Rattle.bd_pager.specs.Places.{Spots, level_in, copy_in, nodes_at}
 use Rattle.bd_pager.specs.Slots.{IsOfLevel}
 use Rattle.bd_pager.specs.Stepping.{change_of}
 
@@ -39,19 +39,20 @@ pub record HasBecome (n m : Node) (old new : Place) : Type 0 where
   pub before : Rc Node Global
   pub was : old ≡ Memory before slot
   pub was_value : before.value ≡ n
-  pub then : Rc Node Global
-  pub is : new ≡ Memory then slot
-  pub is_value : then.value ≡ m
+  pub changed : Rc Node Global
+  pub is : new ≡ Memory changed slot
+  pub is_value : changed.value ≡ m
 
 -- it has made those at these places those at the next ones
-pub record ArePlacesPushed (push : Push) (parent child above below : Place) : Type 0 where
+pub record ArePlacesPushed (push : Push) (old_parent old_child new_parent new_child : Place)
+    : Type 0 where
   pub parent_was : Node
   pub child_was : Node
   pub parent_is : Node
   pub child_is : Node
   pub nodes : AreNodesPushed push parent_was child_was parent_is child_is
-  pub parent : HasBecome parent_was parent_is parent above
-  pub child : HasBecome child_was child_is child below
+  pub parent : HasBecome parent_was parent_is old_parent new_parent
+  pub child : HasBecome child_was child_is old_child new_child
 
 -- the nodes of two ids are at these places, and the others where they were
 abbrev pub with_places : ℕ → Place → ℕ → Place → Spots → Spots
@@ -75,6 +76,7 @@ pub record IsPushedInPlace (push : Push) (old new : Spots) : Type 0 where
 -- the node of an id, as it was read
 pub record IsReadAs (contents : Option Image) (spots : Spots) (id : ℕ) (n : Node) : Type 0 where
   pub of_level : IsOfLevel (level_in (spots id)) n
+  pub copy : IfSome (copy_in (spots id)) (λ m. n ≡ m)
   pub there : IsKnownOver contents spots → nodes_at contents spots id ≡ Some n
 
 -- the nodes were read, and these are to be put for them

@@ -1,6 +1,6 @@
 //! How messages go down from a node to its child.
 
-ghost use Rattle.std.specs.Prelude.{◌≡◌, ◌≢◌, ◌×◌, ◌<◌, ◌==◌, ℕ, if◌then◌else◌, is_some, None, Some, IfOk, IfSome, IsSome, MatchOption, OnOk, OnErr};
+ghost use Rattle.std.specs.Prelude.{◌≡◌, ◌≢◌, ◌<◌, ◌==◌, ℕ, if◌then◌else◌, is_some, None, Some, IfOk, IfSome, IsSome, MatchOption, OnOk, OnErr};
 ghost use Rattle.std.specs.List.{AllByRecursion};
 ghost use Rattle.bd_cache.specs.Cache.{kept_at};
 ghost use Rattle.bd_node.specs.Nodes.{level_of};

@@ -1,25 +1,25 @@
 //! How a pager lets messages go down.
 
-ghost use Rattle.std.specs.Prelude.{◌≡◌, ◌≤◌, IfOk, OnOk, OnErr, Some};
+ghost use Rattle.std.specs.Prelude.{◌≡◌, [], IfOk, OnOk, OnErr, Some};
 ghost use Rattle.bd_message.specs.KeyMaps.{HasMapCause, NeverWorn};
 ghost use Rattle.bd_node.specs.declared.node.Node.{Node};
 ghost use Rattle.bd_node.specs.Pushes.{IsPush, CanPush, HasPushed, IsPushed};
 ghost use Rattle.bd_node.specs.Stores.{OnlyReadsBy, StaysBy};
-ghost use Rattle.bd_node.specs.Tables.{IsSound};
+ghost use Rattle.bd_node.specs.Tables.{IsKept, IsSound};
 ghost use Rattle.bd_pager.specs.Keeping.{KeepsSaved};
 ghost use Rattle.bd_pager.specs.Pagers.{table_of, nodes_of, spots_of, is_known, is_bad, IsReadOf};
-ghost use Rattle.bd_pager.specs.Pushing.{IsPushPlan};
+ghost use Rattle.bd_pager.specs.Pushing.{IsPushPlan, IsReadAs};
 
 use super::{Pager, first_slot};
 use crate::committing::puts_of;
 use crate::pushing::{push_in_place, put_kept, waiting_in};
 use crate::stand_in::step;
 use crate::stepping::Put;
-use bd_counts::Counted;
 use bd_device::Device;
 use bd_message::MapFault;
-use bd_node::{Nodes, Push, Step};
+use bd_node::{Node, Push, Step};
 use bd_slots::slot_block;
+use std::rc::Rc;
 
 impl<D: Device> Pager<D> {
     /// Lets messages go down from a private node to its private child: the commit of both changed
@@ -113,11 +113,11 @@ impl<D: Device> Pager<D> {
         ensures cause { HasMapCause (D.fault_count self.old.dev) (D.fault_count self.new.dev)
             (is_bad D.Device self.new) NeverWorn result }
     {
-        let parent = match Counted::find(self, push.parent) {
+        let parent = match self.read(push.parent) {
             Ok(node) => node,
             Err(fault) => return Err(fault),
         };
-        let child = match Counted::find(self, push.child) {
+        let child = match self.read(push.child) {
             Ok(node) => node,
             Err(fault) => return Err(fault),
         };
@@ -134,6 +134,23 @@ impl<D: Device> Pager<D> {
         match puts_of(self.alloc, self.next, made, changes) {
             Ok(puts) => Ok(puts),
             Err(_) => Err(MapFault::NoMemory),
+        }
+    }
+
+    // The node of a kept id, without a visit, and without a look at what it names.
+    fn read(&mut self, id: u64) -> Result<Rc<Node>, MapFault>
+        requires { IsKept (table_of self.old) id }
+        ensures node { IfOk result (λ node. IsReadAs (D.contents self.old.dev)
+            (spots_of self.old) id node.value) }
+        ensures left { OnlyReadsBy (is_known D.Device) (nodes_of D.Device) table_of
+            (IsReadOf D.Device) (λ _. []) self.old self.new }
+        ensures visits { self.new.visits ≡ self.old.visits }
+        ensures cause { HasMapCause (D.fault_count self.old.dev) (D.fault_count self.new.dev)
+            (is_bad D.Device self.new) NeverWorn result }
+    {
+        match self.reader.find(self.alloc, id) {
+            Ok(node) => Ok(node),
+            Err(fault) => Err(fault),
         }
     }
 }
