@@ -5,6 +5,7 @@ use Rattle.std.specs.Global.{Global}
 use Rattle.std.specs.List.{AllByRecursion}
 use Rattle.std.specs.Map.{lookup}
 use Rattle.std.specs.Option.{option_map}
+use Rattle.std.specs.Rc.{rc_with_value}
 use Rattle.std.specs.declared.rc.Rc.{Rc}
 use Rattle.std.proofs.lemmas.Bool.{cases_eq, cases_lt, cond-true, cond-false, eq-eqb, ne_eqb, true≢false}
 use Rattle.std.proofs.lemmas.Option.{none-some, same_Some}
@@ -36,13 +37,13 @@ use Rattle.bd_pager.specs.declared.stepping.Put.{Put}
 use Rattle.bd_pager.specs.declared.usage.Tally.{Tally}
 use Rattle.bd_pager.specs.declared.usage.Usage.{Usage}
 use Rattle.bd_pager.specs.declared.usage.TheConstants.{IN_MEMORY}
-use Rattle.bd_pager.specs.Calling.{read_keeps, keeps_both}
+use Rattle.bd_pager.specs.Calling.{read_keeps, read_known, keeps_both}
 use Rattle.bd_pager.specs.Changing.{own_slot, IsChangedPlace, IsChangedSpot, IsChangedAt}
 use Rattle.bd_pager.specs.Counting.{is_in_memory, tally_of, recounted, IsTallied}
 use Rattle.bd_pager.specs.Keeping.{KeepsSaved}
 use Rattle.bd_pager.specs.Places.{Spots, refs_in, level_in, copy_at, copy_in, told, ArePlaced, IsLowerIn}
 use Rattle.bd_pager.specs.Pagers.{Paged, spots_of, table_of, nodes_of, is_known, IsOfSize, IsPaged}
-use Rattle.bd_pager.specs.Pushing.{placed_at, with_places, HasBecome, ArePlacesPushed, IsPushedInPlace, IsReadAs, IsPushPlan}
+use Rattle.bd_pager.specs.Pushing.{placed_at, with_places, AreNodesPushed, HasBecome, ArePlacesPushed, IsPushedInPlace, IsReadAs, IsPushPlan}
 use Rattle.bd_pager.specs.Slots.{IsOfLevel}
 use Rattle.bd_pager.specs.Stepping.{held, change_of, put_at, put_spot, with_put}
 use Rattle.bd_pager.specs.Testing.{Marks, is_tested, NamesLower, AreTested}
@@ -185,6 +186,13 @@ module _ (push : Push) (old first second third last : Spots) (gap above below ne
         is = put_places;
       }
   put_pushed (Some p) made = (made.0, put_same (made.1, made.2))
+
+-- what is so of a node that nobody else holds is so of what holds it
+pub held_pushed : (push : Push) (rc child new_child : Rc Node Global) (n now : Node) → n ≡ rc.value → (left : Option Push)
+    → MatchOption left (AreNodesPushed push n child.value now new_child.value) (λ p. (p ≡ push) × (now ≡ n) × (new_child ≡ child) × (CanMake push n child.value → ⊥))
+    → MatchOption left (AreNodesPushed push rc.value child.value now new_child.value) (λ p. (p ≡ push) × (rc_with_value rc now ≡ rc) × (new_child ≡ child))
+held_pushed push rc child new_child n now held None made = subst (λ (m : Node). AreNodesPushed push m child.value now new_child.value) held made
+held_pushed push rc child new_child n now held (Some p) made = (made.0, ap (λ (m : Node). rc_with_value rc m) (made.1 ∙ held), made.2)
 
 -- ---- what the step gives
 
@@ -593,9 +601,9 @@ module _ (spare : List Bool) (puts : List Put) (spots new : Spots) (each : (id :
   put_stays id none = each id ∙ ap (λ (o : Option (Rc Node Global)). with_put spare o (spots id)) (none_mapped (put_at puts id) (put_is puts id ∙ none))
 
 module _ {D : Type 0} (g : Ghosts D) (p : Paged D) (push : Push) (puts : List Put) (entries : List (ℕ × Spot)) (was : IsPaged (g.contents p.dev) p) (is : IsPush (table_of p) push)
-    (plan : IsPushPlan (g.contents p.dev) (spots_of p) p.root push puts) where
+    (plan : IsPushPlan (g.contents p.dev) (spots_of p) push puts) where
   abbrev above : Node
-  above = plan.makes.above
+  above = plan.made.above
 
   abbrev below : Node
   below = gained plan.child push.gain
@@ -607,16 +615,13 @@ module _ {D : Type 0} (g : Ghosts D) (p : Paged D) (push : Push) (puts : List Pu
   two e = omega (arith, is.lower, ap (table_of p).level e)
 
   changes_are : map change_of puts ≡ copies.changes
-  changes_are = plan.puts_are ∙ ap (λ (s : Step). s.changes) plan.makes.is
+  changes_are = plan.made.are ∙ ap (λ (m : Node). let c : Change = record { id = push.child; node = m } in c ∷ record { id = push.parent; node = above } ∷ []) plan.made.nodes.gained
 
   pub copies_low : AllByRecursion (λ (put : Put). put.id < p.next) puts
   copies_low =
       each_mapped (λ (c : Change). c.id < p.next) change_of puts
       (subst (λ (cs : List Change). AllByRecursion (λ (c : Change). c.id < p.next) cs) (sym changes_are)
       (was.table.below push.child is.child, (was.table.below push.parent is.parent, tt)))
-
-  relieved_so : IsRelieved plan.parent push.place plan.can.relieve.edge push.count above
-  relieved_so = subst (λ (e : Edge). IsRelieved plan.parent push.place e push.count above) (same_Some plan.makes.edge plan.can.relieve.edge (sym plan.makes.here ∙ plan.can.relieve.here)) plan.makes.relieved
 
   gives_of : (id : ℕ) → id < p.next → given p.next copies id ≡ changed_at (map change_of puts) id
   gives_of id low = given-old p.next copies id low ∙ ap (λ (cs : List Change). changed_at cs id) (sym changes_are)
@@ -626,7 +631,7 @@ module _ {D : Type 0} (g : Ghosts D) (p : Paged D) (push : Push) (puts : List Pu
     spots id = lookup (nat_eq id) entries
 
     own : (id : ℕ) (n : Node) → given p.next copies id ≡ Some n → IsOfLevel (level_in (spots_of p id)) n
-    own = own_given g p push plan.parent plan.child above entries was is plan.parent_read plan.child_read plan.can relieved_so
+    own = own_given g p push plan.parent plan.child above entries was is plan.parent_read plan.child_read plan.made.nodes.can plan.made.nodes.relieved
 
     changed_so : (id : ℕ) (n : Node) → id < p.next → IsKept (table_of p) id → given p.next copies id ≡ Some n → WasChanged p.spare id n (spots_of p) spots
     changed_so id n low kept some =
@@ -645,7 +650,7 @@ module _ {D : Type 0} (g : Ghosts D) (p : Paged D) (push : Push) (puts : List Pu
         ∙ changed_at-other (record { id = push.parent; node = above }) [] id off_parent))
 
     pub copies_root : IfSome (copy_in (lookup (nat_eq p.root) entries)) IsShape
-    copies_root = root_shape g p push plan.parent plan.child above entries was is plan.parent_read plan.child_read plan.can relieved_so copied
+    copies_root = root_shape g p push plan.parent plan.child above entries was is plan.parent_read plan.child_read plan.made.nodes.can plan.made.nodes.relieved copied
 
     module _ (bytes : ℕ) (cache : NodeCache) (sized : IsSome (copy_in (lookup (nat_eq p.root) entries)) → IsOfSize bytes (copy_in (lookup (nat_eq p.root) entries)))
         (forgotten : (id : ℕ) → kept_at cache id ≡ cond (is_some (put_at puts id)) None (kept_at p.cache id)) where
@@ -657,13 +662,39 @@ module _ {D : Type 0} (g : Ghosts D) (p : Paged D) (push : Push) (puts : List Pu
           (still.1, gives_of id low ∙ sym (put_is puts id) ∙ none_put (put_at puts id) still.0)
 
       pub copies_paged : IsPaged (g.contents p.dev) (record p { spots = entries; size = bytes; cache = cache; written = None })
-      copies_paged = pushed_paged g p push plan.parent plan.child above entries was is plan.parent_read plan.child_read plan.can relieved_so copied bytes cache sized uncached_so
+      copies_paged = pushed_paged g p push plan.parent plan.child above entries was is plan.parent_read plan.child_read plan.made.nodes.can plan.made.nodes.relieved copied bytes cache sized uncached_so
 
       pub copies_made : HasMadePush g p push (record p { spots = entries; size = bytes; cache = cache; written = None })
-      copies_made = has_made g p push plan.parent plan.child above entries was is plan.parent_read plan.child_read plan.can relieved_so copied bytes cache sized uncached_so
+      copies_made = has_made g p push plan.parent plan.child above entries was is plan.parent_read plan.child_read plan.made.nodes.can plan.made.nodes.relieved copied bytes cache sized uncached_so
 
       pub copies_tested : (marks now : Marks) → ((id : ℕ) → IsTrue (is_tested now id) → IsTrue (is_tested marks id)) → is_tested now push.parent ≡ false → is_tested now push.child ≡ false
           → AreTested (spots_of p) p.cache marks → AreTested (λ id. lookup (nat_eq id) entries) cache now
       copies_tested marks now fewer off_parent off_child =
-          pushed_tested g p push plan.parent plan.child above entries was is plan.parent_read plan.child_read plan.can relieved_so copied bytes cache sized uncached_so marks now fewer
+          pushed_tested g p push plan.parent plan.child above entries was is plan.parent_read plan.child_read plan.made.nodes.can plan.made.nodes.relieved copied bytes cache sized uncached_so marks now fewer
           (λ on. absurd (true≢false (sym on ∙ off_parent))) (λ on. absurd (true≢false (sym on ∙ off_child)))
+
+-- ---- what was read
+
+-- it was so before the reads
+pub read_before : {D : Type 0} (g : Ghosts D) (old p : Paged D) (id : ℕ) (n : Node) → OnlyReadsOf g old p → IsReadAs (g.contents p.dev) (spots_of p) id n → IsReadAs (g.contents old.dev) (spots_of old) id n
+read_before g old p id n left is =
+    subst (λ (c : Option Image). IsReadAs c (spots_of old) id n) left.read.device.kept
+    (subst (λ (s : Spots). IsReadAs (g.contents p.dev) s id n) left.read.spots is)
+
+-- and after them
+pub plan_after : {D : Type 0} (g : Ghosts D) (old p : Paged D) (push : Push) (puts : List Put) → OnlyReadsOf g old p → IsPushPlan (g.contents old.dev) (spots_of old) push puts → IsPushPlan (g.contents p.dev) (spots_of p) push puts
+plan_after g old p push puts left plan =
+    subst (λ (c : Option Image). IsPushPlan c (spots_of p) push puts) (sym left.read.device.kept)
+    (subst (λ (s : Spots). IsPushPlan (g.contents old.dev) s push puts) (sym left.read.spots) plan)
+
+-- where the messages can't go down, the nodes aren't sound
+pub no_push : {D : Type 0} (g : Ghosts D) (old p : Paged D) (push : Push) (n m : Node) → OnlyReadsOf g old p → IsReadAs (g.contents old.dev) (spots_of old) push.parent n → IsReadAs (g.contents old.dev) (spots_of old) push.child m
+    → (is_known g old → IsSound (nodes_of g old) (table_of old) → CanPush (nodes_of g old) (table_of old) push) → (CanMake push n m → ⊥) → is_known g p → IsSound (nodes_of g p) (table_of p) → ⊥
+no_push g old p push n m left parent_read child_read can cannot known sound =
+    let before : is_known g old = read_known g old p left.read known in
+    let sound_before : IsSound (nodes_of g old) (table_of old) =
+    subst (λ (t : Table). IsSound (nodes_of g old) t) left.table (subst (λ (ns : Nodes). IsSound ns (table_of p)) (left.kept before) sound) in
+    let may = can before sound_before in
+    cannot
+    (subst (λ (x : Node). CanMake push x m) (same_Some may.parent n (sym may.parent_is ∙ parent_read.there before))
+    (subst (λ (y : Node). CanMake push may.parent y) (same_Some may.child m (sym may.child_is ∙ child_read.there before)) may.can))

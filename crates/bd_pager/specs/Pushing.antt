@@ -1,12 +1,11 @@
 -- What a push leaves of what is known of nodes.
-use Rattle.std.specs.Prelude.{◌≡◌, ◌==◌, ℕ, if◌then◌else◌, map, Option, None, Some, IfSome, List}
+use Rattle.std.specs.Prelude.{◌≡◌, ◌==◌, ℕ, if◌then◌else◌, map, Option, None, Some, IfSome, List, [], ◌∷◌}
 use Rattle.std.specs.Global.{Global}
 use Rattle.std.specs.declared.rc.Rc.{Rc}
 use Rattle.bd_device.specs.Blocks.{Image}
 use Rattle.bd_node.specs.declared.node.Node.{Node}
-use Rattle.bd_node.specs.declared.node.Step.{Step}
 use Rattle.bd_node.specs.declared.push.Push.{Push}
-use Rattle.bd_node.specs.Pushes.{IsRelieved, gained, CanMake, IsPushStep}
+use Rattle.bd_node.specs.Pushes.{IsRelieved, gained, CanMake}
 use Rattle.bd_pager.specs.declared.place.Place.{Place}
 use Rattle.bd_pager.specs.declared.place.Place.TheVariants.{Memory, Slot}
 use Rattle.bd_pager.specs.declared.place.Spot.{Spot}
@@ -79,14 +78,19 @@ pub record IsReadAs (contents : Option Image) (spots : Spots) (id : ℕ) (n : No
   pub copy : IfSome (copy_in (spots id)) (λ m. n ≡ m)
   pub there : IsKnownOver contents spots → nodes_at contents spots id ≡ Some n
 
+-- these are to be put for the two nodes
+pub record ArePushPuts (push : Push) (parent child : Node) (puts : List Put) : Type 0 where
+  pub above : Node
+  pub below : Node
+  pub nodes : AreNodesPushed push parent child above below
+  pub are : map change_of puts
+      ≡ record { id = push.child; node = below } ∷ record { id = push.parent; node = above } ∷ []
+
 -- the nodes were read, and these are to be put for them
-pub record IsPushPlan (contents : Option Image) (spots : Spots) (root : ℕ) (push : Push)
-    (puts : List Put) : Type 0 where
+pub record IsPushPlan (contents : Option Image) (spots : Spots) (push : Push) (puts : List Put)
+    : Type 0 where
   pub parent : Node
   pub child : Node
   pub parent_read : IsReadAs contents spots push.parent parent
   pub child_read : IsReadAs contents spots push.child child
-  pub can : CanMake push parent child
-  pub step : Step
-  pub makes : IsPushStep root push parent child step
-  pub puts_are : map change_of puts ≡ step.changes
+  pub made : ArePushPuts push parent child puts

@@ -4,12 +4,12 @@ ghost use Rattle.std.specs.Prelude.{◌≡◌, ◌≢◌, ◌<◌, ◌==◌, ℕ
 ghost use Rattle.std.specs.List.{AllByRecursion};
 ghost use Rattle.bd_cache.specs.Cache.{kept_at};
 ghost use Rattle.bd_node.specs.Nodes.{level_of};
-ghost use Rattle.bd_node.specs.Pushes.{gained, IsGain};
+ghost use Rattle.bd_node.specs.Pushes.{gained, CanMake, IsGain};
 ghost use Rattle.bd_node.specs.Shape.{IsShape};
 ghost use Rattle.bd_pager.specs.Counting.{AreUnused, IsTallied};
 ghost use Rattle.bd_pager.specs.Pagers.{IsOfSize};
 ghost use Rattle.bd_pager.specs.Places.{spots_in, copy_at, copy_in, ArePlaced};
-ghost use Rattle.bd_pager.specs.Pushing.{vacant, placed_at, AreNodesPushed, ArePlacesPushed, IsPushedInPlace};
+ghost use Rattle.bd_pager.specs.Pushing.{vacant, placed_at, AreNodesPushed, ArePlacesPushed, ArePushPuts, IsPushedInPlace};
 ghost use Rattle.bd_pager.specs.Stepping.{put_at, with_put};
 
 use crate::changing::append_to;
@@ -111,7 +111,7 @@ fn push_places(
     push_nodes(alloc, parent, child, push)
 }
 
-// Lets messages go down from a node that nobody else holds to its child.
+// Lets messages go down from a node to its child, if nobody else holds the node.
 fn push_nodes(
     alloc: Global,
     parent: &mut Rc<Node>,
@@ -126,18 +126,37 @@ fn push_nodes(
         (λ p. (p ≡ push) × (parent.new ≡ parent.old) × (child.new ≡ child.old))) }
     ensures err { OnErr result ((parent.new ≡ parent.old) × (child.new ≡ child.old)) }
 {
-    let Some(node) = Rc::get_mut(parent) else {
-        return Ok(Some(push));
-    };
+    match Rc::get_mut(parent) {
+        Some(node) => push_between(alloc, node, child, push),
+        None => Ok(Some(push)),
+    }
+}
+
+// Lets messages go down from a node to its child, if that can be.
+fn push_between(
+    alloc: Global,
+    parent: &mut Node,
+    child: &mut Rc<Node>,
+    push: Push,
+) -> Result<Option<Push>, AllocError>
+    requires parent { IsShape parent.old }
+    requires child { IsShape child.old.value }
+    requires gain { IsGain (level_of child.old.value) push.gain }
+    ensures ok { IfOk result (λ left. MatchOption left
+        (AreNodesPushed push parent.old child.old.value parent.new child.new.value)
+        (λ p. (p ≡ push) × (parent.new ≡ parent.old) × (child.new ≡ child.old)
+        × (¬ CanMake push parent.old child.old.value))) }
+    ensures err { OnErr result ((parent.new ≡ parent.old) × (child.new ≡ child.old)) }
+{
     if !fits(&push.gain, child) {
         return Ok(Some(push));
     }
-    let found = relief(node, push.place, push.count)?;
+    let found = relief(parent, push.place, push.count)?;
     let Some(relief) = found else {
         return Ok(Some(push));
     };
     give(alloc, child, push.gain)?;
-    relieve(node, relief);
+    relieve(parent, relief);
     Ok(None)
 }
 
@@ -153,6 +172,36 @@ fn give(alloc: Global, shared: &mut Rc<Node>, gain: Gain) -> Result<(), AllocErr
             Ok(())
         }
     }
+}
+
+/// What is to be put for a node and its child, for messages to go down between them, if that can be.
+pub fn push_puts(
+    alloc: Global,
+    parent: &Node,
+    child: Rc<Node>,
+    push: Push,
+) -> Result<Option<Vec<Put>>, AllocError>
+    requires parent { IsShape parent.now }
+    requires child { IsShape child.value }
+    requires gain { IsGain (level_of child.value) push.gain }
+    ensures { IfOk result (λ found. MatchOption found (¬ CanMake push parent.now child.value)
+        (λ puts. ArePushPuts push parent.now child.value puts.items)) }
+{
+    let (id, child_id) = (push.parent, push.child);
+    let mut above = parent.clone()?;
+    let mut below = child;
+    let left = push_between(alloc, &mut above, &mut below, push)?;
+    if left.is_some() {
+        return Ok(None);
+    }
+    let above = Rc::new(alloc, above)?;
+    let mut puts = Vec::new(alloc);
+    puts.push(Put {
+        id: child_id,
+        node: below,
+    })?;
+    puts.push(Put { id, node: above })?;
+    Ok(Some(puts))
 }
 
 /// Puts nodes for kept ones, which then aren't kept as they were read, or leaves all as it is where

@@ -2,10 +2,10 @@
 
 ghost use Rattle.std.specs.Prelude.{◌↔◌, ◌≡◌, IfOk, IsTrue, MatchOption};
 ghost use Rattle.bd_node.specs.Nodes.{level_of};
-ghost use Rattle.bd_node.specs.Pushes.{changed_by, CanMake, CanRelieve, FitsNode, HasRoomFor, IsGain, IsPushStep, IsReliefOf};
+ghost use Rattle.bd_node.specs.Pushes.{changed_by, CanRelieve, FitsNode, HasRoomFor, IsGain, IsReliefOf};
 ghost use Rattle.bd_node.specs.Shape.{IsShape};
 
-use bd_node::{Gain, Node, Push, Relief, Step};
+use bd_node::{Gain, Node, Push, Relief};
 use std::alloc::{AllocError, Global};
 
 pub fn relief(node: &Node, place: usize, count: usize) -> Result<Option<Relief>, AllocError>
@@ -19,22 +19,6 @@ pub fn relief(node: &Node, place: usize, count: usize) -> Result<Option<Relief>,
 pub fn relieve(node: &mut Node, relief: Relief)
     requires { FitsNode relief node.old }
     ensures { node.new ≡ changed_by relief node.old }
-{
-    unreachable!()
-}
-
-pub fn step(
-    push: Push,
-    alloc: Global,
-    root: u64,
-    parent: &Node,
-    child: &Node,
-) -> Result<Option<Step>, AllocError>
-    requires parent { IsShape parent.now }
-    requires child { IsShape child.now }
-    requires gain { IsGain (level_of child.now) push.gain }
-    ensures { IfOk result (λ found. MatchOption found (¬ CanMake push parent.now child.now)
-        (λ step. IsPushStep root push parent.now child.now step)) }
 {
     unreachable!()
 }

@@ -11,13 +11,11 @@ ghost use Rattle.bd_pager.specs.Pagers.{table_of, nodes_of, spots_of, is_known, 
 ghost use Rattle.bd_pager.specs.Pushing.{IsPushPlan, IsReadAs};
 
 use super::{Pager, first_slot};
-use crate::committing::puts_of;
-use crate::pushing::{push_in_place, put_kept, waiting_in};
-use crate::stand_in::step;
+use crate::pushing::{push_in_place, push_puts, put_kept, waiting_in};
 use crate::stepping::Put;
 use bd_device::Device;
 use bd_message::MapFault;
-use bd_node::{Node, Push, Step};
+use bd_node::{Node, Push};
 use bd_slots::slot_block;
 use std::rc::Rc;
 
@@ -106,7 +104,7 @@ impl<D: Device> Pager<D> {
             → IsSound (nodes_of D.Device self.old) (table_of self.old)
             → CanPush (nodes_of D.Device self.old) (table_of self.old) push }
         ensures plan { IfOk result (λ puts. IsPushPlan (D.contents self.old.dev)
-            (spots_of self.old) (table_of self.old).root push puts.items) }
+            (spots_of self.old) push puts.items) }
         ensures left { OnlyReadsBy (is_known D.Device) (nodes_of D.Device) table_of
             (IsReadOf D.Device) (λ _. []) self.old self.new }
         ensures visits { self.new.visits ≡ self.old.visits }
@@ -121,18 +119,11 @@ impl<D: Device> Pager<D> {
             Ok(node) => node,
             Err(fault) => return Err(fault),
         };
-        let found = match step(push, self.alloc, self.root, &parent, &child) {
-            Ok(found) => found,
-            Err(_) => return Err(MapFault::NoMemory),
-        };
-        let Some(step) = found else {
-            return Err(MapFault::Damaged {
+        match push_puts(self.alloc, &parent, child, push) {
+            Ok(Some(puts)) => Ok(puts),
+            Ok(None) => Err(MapFault::Damaged {
                 block: slot_block(first_slot(self.at.as_slice())),
-            });
-        };
-        let Step { made, changes, .. } = step;
-        match puts_of(self.alloc, self.next, made, changes) {
-            Ok(puts) => Ok(puts),
+            }),
             Err(_) => Err(MapFault::NoMemory),
         }
     }
