@@ -7,7 +7,7 @@ use Rattle.std.specs.Map.{lookup}
 use Rattle.std.specs.Option.{option_map}
 use Rattle.std.specs.Rc.{rc_with_value}
 use Rattle.std.specs.declared.rc.Rc.{Rc}
-use Rattle.std.proofs.lemmas.Bool.{cases_eq, cases_lt, cond-true, cond-false, eq-eqb, ne_eqb, true≢false}
+use Rattle.std.proofs.lemmas.Bool.{cases_eq, cases_lt, cond-true, cond-false, eq-eqb, ne_eqb}
 use Rattle.std.proofs.lemmas.Option.{none-some, same_Some}
 use Rattle.bd_device.specs.Blocks.{Image}
 use Rattle.bd_device.specs.declared.device.Device.{Ghosts}
@@ -376,24 +376,6 @@ module _ {D : Type 0} (g : Ghosts D) (p : Paged D) (push : Push) (parent child a
                 }));
           }
 
--- reads before it leave that
-pub made_before : {D : Type 0} (g : Ghosts D) (old p : Paged D) (push : Push) (new : Paged D) → OnlyReadsOf g old p → HasMadePush g p push new → HasMadePush g old push new
-made_before g old p push new left made = record {
-  table = subst (λ (t : Table). HasPushed t push (table_of new)) left.table made.table;
-  stays = record {
-    known = λ known. made.stays.known (left.known known);
-    beside = keeps_both g old p new (read_keeps g old p left.read) made.stays.beside;
-    same_loans = refl;
-  };
-  committed = λ known sound n m.
-      let nodes : nodes_of g p ≡ nodes_of g old = left.kept known in
-      let sound_then : IsSound (nodes_of g p) (table_of p) =
-      subst (λ (t : Table). IsSound (nodes_of g p) t) (sym left.table) (subst (λ (ns : Nodes). IsSound ns (table_of old)) (sym nodes) sound) in
-      subst (λ (ns : Nodes). ns push.parent ≡ Some n → ns push.child ≡ Some m → IsPushed ns (table_of old) push n m (nodes_of g new) (table_of new)) nodes
-      (subst (λ (t : Table). nodes_of g p push.parent ≡ Some n → nodes_of g p push.child ≡ Some m → IsPushed (nodes_of g p) t push n m (nodes_of g new) (table_of new)) left.table
-      (made.committed (left.known known) sound_then n m));
-}
-
 -- ---- in place
 
 become_changed : (spare : List Bool) (n m : Node) (s : Spot) (new : Place) → HasBecome n m s.place new → IsChangedSpot spare m s (record s { place = new })
@@ -667,11 +649,11 @@ module _ {D : Type 0} (g : Ghosts D) (p : Paged D) (push : Push) (puts : List Pu
       pub copies_made : HasMadePush g p push (record p { spots = entries; size = bytes; cache = cache; written = None })
       copies_made = has_made g p push plan.parent plan.child above entries was is plan.parent_read plan.child_read plan.made.nodes.can plan.made.nodes.relieved copied bytes cache sized uncached_so
 
-      pub copies_tested : (marks now : Marks) → ((id : ℕ) → IsTrue (is_tested now id) → IsTrue (is_tested marks id)) → is_tested now push.parent ≡ false → is_tested now push.child ≡ false
+      pub copies_tested : (marks now : Marks) → ((id : ℕ) → IsTrue (is_tested now id) → IsTrue (is_tested marks id)) → (IsTrue (is_tested now push.parent) → ⊥) → (IsTrue (is_tested now push.child) → ⊥)
           → AreTested (spots_of p) p.cache marks → AreTested (λ id. lookup (nat_eq id) entries) cache now
       copies_tested marks now fewer off_parent off_child =
           pushed_tested g p push plan.parent plan.child above entries was is plan.parent_read plan.child_read plan.made.nodes.can plan.made.nodes.relieved copied bytes cache sized uncached_so marks now fewer
-          (λ on. absurd (true≢false (sym on ∙ off_parent))) (λ on. absurd (true≢false (sym on ∙ off_child)))
+          (λ on. absurd (off_parent on)) (λ on. absurd (off_child on))
 
 -- ---- what was read
 
@@ -687,6 +669,9 @@ plan_after g old p push puts left plan =
     subst (λ (c : Option Image). IsPushPlan c (spots_of p) push puts) (sym left.read.device.kept)
     (subst (λ (s : Spots). IsPushPlan (g.contents old.dev) s push puts) (sym left.read.spots) plan)
 
+pub none_made : {X Y : Type 0} (P : X → Type 0) (o : Option X) → o ≡ None → MatchOption o Y P → Y
+none_made {X} {Y} P o none made = subst (λ (x : Option X). MatchOption x Y P) none made
+
 -- where the messages can't go down, the nodes aren't sound
 pub no_push : {D : Type 0} (g : Ghosts D) (old p : Paged D) (push : Push) (n m : Node) → OnlyReadsOf g old p → IsReadAs (g.contents old.dev) (spots_of old) push.parent n → IsReadAs (g.contents old.dev) (spots_of old) push.child m
     → (is_known g old → IsSound (nodes_of g old) (table_of old) → CanPush (nodes_of g old) (table_of old) push) → (CanMake push n m → ⊥) → is_known g p → IsSound (nodes_of g p) (table_of p) → ⊥
@@ -698,3 +683,80 @@ no_push g old p push n m left parent_read child_read can cannot known sound =
     cannot
     (subst (λ (x : Node). CanMake push x m) (same_Some may.parent n (sym may.parent_is ∙ parent_read.there before))
     (subst (λ (y : Node). CanMake push may.parent y) (same_Some may.child m (sym may.child_is ∙ child_read.there before)) may.can))
+
+-- ---- reads before it
+
+module _ {D : Type 0} (g : Ghosts D) (old p : Paged D) (push : Push) (left : OnlyReadsOf g old p) where
+  -- what could be pushed can be after reads
+  pub can_after : (is_known g old → IsSound (nodes_of g old) (table_of old) → CanPush (nodes_of g old) (table_of old) push) → is_known g p → IsSound (nodes_of g p) (table_of p) → CanPush (nodes_of g p) (table_of p) push
+  can_after can known sound =
+      let before : is_known g old = read_known g old p left.read known in
+      let nodes : nodes_of g p ≡ nodes_of g old = left.kept before in
+      subst (λ (t : Table). CanPush (nodes_of g p) t push) (sym left.table)
+      (subst (λ (ns : Nodes). CanPush ns (table_of old) push) (sym nodes)
+      (can before (subst (λ (t : Table). IsSound (nodes_of g old) t) left.table (subst (λ (ns : Nodes). IsSound ns (table_of p)) nodes sound))))
+
+  -- and what it makes of them it makes of those before
+  pub committed_before : (F : Type 0 → Type 0) (new : Paged D)
+      → (is_known g p → IsSound (nodes_of g p) (table_of p) → (n m : Node) → nodes_of g p push.parent ≡ Some n → nodes_of g p push.child ≡ Some m → F (IsPushed (nodes_of g p) (table_of p) push n m (nodes_of g new) (table_of new)))
+      → is_known g old → IsSound (nodes_of g old) (table_of old) → (n m : Node) → nodes_of g old push.parent ≡ Some n → nodes_of g old push.child ≡ Some m → F (IsPushed (nodes_of g old) (table_of old) push n m (nodes_of g new) (table_of new))
+  committed_before F new made known sound n m =
+      let nodes : nodes_of g p ≡ nodes_of g old = left.kept known in
+      let sound_then : IsSound (nodes_of g p) (table_of p) =
+      subst (λ (t : Table). IsSound (nodes_of g p) t) (sym left.table) (subst (λ (ns : Nodes). IsSound ns (table_of old)) (sym nodes) sound) in
+      subst (λ (ns : Nodes). ns push.parent ≡ Some n → ns push.child ≡ Some m → F (IsPushed ns (table_of old) push n m (nodes_of g new) (table_of new))) nodes
+      (subst (λ (t : Table). nodes_of g p push.parent ≡ Some n → nodes_of g p push.child ≡ Some m → F (IsPushed (nodes_of g p) t push n m (nodes_of g new) (table_of new))) left.table
+      (made (left.known known) sound_then n m))
+
+  pub stays_before : (new : Paged D) → StaysBy (is_known g) (KeepsSaved g) no_loans p new → StaysBy (is_known g) (KeepsSaved g) no_loans old new
+  stays_before new stays = record {
+    known = λ known. stays.known (left.known known);
+    beside = keeps_both g old p new (read_keeps g old p left.read) stays.beside;
+    same_loans = refl;
+  }
+
+  pub made_before : (new : Paged D) → HasMadePush g p push new → HasMadePush g old push new
+  made_before new made = record {
+    table = subst (λ (t : Table). HasPushed t push (table_of new)) left.table made.table;
+    stays = stays_before new made.stays;
+    committed = committed_before (λ P. P) new made.committed;
+  }
+
+-- the pager after a push by copies of what was read
+module _ {D : Type 0} (g : Ghosts D) (old p : Paged D) (push : Push) (puts : List Put) (entries : List (ℕ × Spot)) (was : IsPaged (g.contents p.dev) p) (is : IsPush (table_of old) push) (left : OnlyReadsOf g old p)
+    (plan : IsPushPlan (g.contents old.dev) (spots_of old) push puts) where
+  is_then : IsPush (table_of p) push
+  is_then = subst (λ (t : Table). IsPush t push) (sym left.table) is
+
+  plan_then : IsPushPlan (g.contents p.dev) (spots_of p) push puts
+  plan_then = plan_after g old p push puts left plan
+
+  pub read_low : AllByRecursion (λ (put : Put). put.id < p.next) puts
+  read_low = copies_low g p push puts entries was is_then plan_then
+
+  module _ (each : (id : ℕ) → lookup (nat_eq id) entries ≡ with_put p.spare (put_at puts id) (spots_of p id)) where
+    pub read_root : IfSome (copy_in (lookup (nat_eq p.root) entries)) IsShape
+    read_root = copies_root g p push puts entries was is_then plan_then each
+
+    module _ (bytes : ℕ) (cache : NodeCache) (sized : IsSome (copy_in (lookup (nat_eq p.root) entries)) → IsOfSize bytes (copy_in (lookup (nat_eq p.root) entries)))
+        (forgotten : (id : ℕ) → kept_at cache id ≡ cond (is_some (put_at puts id)) None (kept_at p.cache id)) where
+      pub read_made : (spare : List Bool) → spare ≡ p.spare → IsPaged (g.contents p.dev) (record p { spots = entries; spare = spare; size = bytes; cache = cache; written = None })
+          × HasMadePush g old push (record p { spots = entries; spare = spare; size = bytes; cache = cache; written = None })
+      read_made spare same =
+          let at : List Bool → Paged D = λ s. record p { spots = entries; spare = s; size = bytes; cache = cache; written = None } in
+          subst (λ (s : List Bool). IsPaged (g.contents p.dev) (at s) × HasMadePush g old push (at s)) (sym same) (
+            copies_paged g p push puts entries was is_then plan_then each bytes cache sized forgotten,
+            made_before g old p push left (at p.spare) (copies_made g p push puts entries was is_then plan_then each bytes cache sized forgotten),
+          )
+
+      pub read_tested : (marks now : Marks) → ((id : ℕ) → IsTrue (is_tested now id) → IsTrue (is_tested marks id)) → (IsTrue (is_tested now push.parent) → ⊥) → (IsTrue (is_tested now push.child) → ⊥)
+          → AreTested (spots_of p) p.cache marks → AreTested (λ id. lookup (nat_eq id) entries) cache now
+      read_tested = copies_tested g p push puts entries was is_then plan_then each bytes cache sized forgotten
+
+-- ---- a push that was given back
+
+pub made_in_place : (push : Push) (spots new : Spots) (o : Option Push) → o ≡ None → MatchOption o (IsPushedInPlace push spots new) (λ p. (p ≡ push) × ((id : ℕ) → new id ≡ spots id)) → IsPushedInPlace push spots new
+made_in_place push spots new o none made = subst (λ (x : Option Push). MatchOption x (IsPushedInPlace push spots new) (λ p. (p ≡ push) × ((id : ℕ) → new id ≡ spots id))) none made
+
+pub given_back : (push : Push) (spots new : Spots) (o : Option Push) (p : Push) → o ≡ Some p → MatchOption o (IsPushedInPlace push spots new) (λ x. (x ≡ push) × ((id : ℕ) → new id ≡ spots id)) → (p ≡ push) × ((id : ℕ) → new id ≡ spots id)
+given_back push spots new o p some made = subst (λ (x : Option Push). MatchOption x (IsPushedInPlace push spots new) (λ y. (y ≡ push) × ((id : ℕ) → new id ≡ spots id))) some made
