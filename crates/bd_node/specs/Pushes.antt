@@ -146,19 +146,22 @@ pub record CanPush (nodes : Nodes) (t : Table) (push : Push) : Type 0 where
   pub parent_private : IsPrivate nodes t push.parent
   pub child_private : IsPrivate nodes t push.child
 
--- the table after it, whatever the nodes are: that after its step over some nodes of these levels
+-- the table after it, whatever the nodes are: that after its step over some nodes of these levels,
+-- a root of the size that the table tells
 pub record HasPushed (t : Table) (push : Push) (new : Table) : Type 0 where
   pub parent : Node
   pub child : Node
   pub parent_level : level_of parent ≡ t.level push.parent
   pub child_level : level_of child ≡ t.level push.child
+  pub root_size : push.parent ≡ t.root → buffer_size parent ≡ t.size
   pub step : Step
   pub makes : IsPushStep t.root push parent child step
   pub table : IsTableAfter t step new
 
--- the nodes after it
+-- the nodes and the table after it
 pub record IsPushed (nodes : Nodes) (t : Table) (push : Push) (n m : Node) (new : Nodes)
     (u : Table) : Type 0 where
   pub step : Step
   pub makes : IsPushStep t.root push n m step
+  pub table : IsTableAfter t step u
   pub committed : IsCommitted nodes t step new u
