@@ -28,3 +28,4 @@ pub mod Owning
 pub mod Marking
 pub mod Compacting
 pub mod Relieving
+pub mod InPlace
