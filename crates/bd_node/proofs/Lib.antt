@@ -29,3 +29,4 @@ pub mod Marking
 pub mod Compacting
 pub mod Relieving
 pub mod InPlace
+pub mod Going

@@ -71,7 +71,7 @@ impl Node {
         match self {
             Node::Leaf(_) => {}
             Node::Inner { edges, buffer, .. } => {
-                see(edges, seens);
+                see(buffer.allocator(), edges, seens.as_slice());
                 buffer.keep(stays.as_slice(), index);
             }
         }
@@ -101,9 +101,16 @@ fn advanced(edges: &Edges, place: usize, count: usize) -> Result<Edges, AllocErr
     ensures { IfOk result (λ made. (e : Edge) → slice_get edges.now place ≡ Some e
         → made ≡ after_seeing edges.now place count e) }
 {
-    let mut made = edges.clone()?.into_vec();
+    let mut made = copied(edges)?.into_vec();
     made[place].seen += count as u32;
     Ok(Items::from_vec(made))
+}
+
+// A copy of edges.
+fn copied(edges: &Edges) -> Result<Edges, AllocError>
+    ensures { IfOk result (λ copy. copy ≡ edges.now) }
+{
+    edges.clone()
 }
 
 // Whether each message is pending for some edge, where each was before the edge at a place saw those
@@ -194,11 +201,11 @@ fn seens(alloc: Global, edges: &[Edge], mask: &[bool]) -> Result<Vec<u32>, Alloc
 }
 
 // Lets each edge have seen so many messages, in place.
-fn see(edges: &mut Edges, seens: Vec<u32>)
-    requires { length seens.items ≡ length edges.old }
-    ensures { edges.new ≡ with_seen seens.items edges.old }
+fn see(alloc: Global, edges: &mut Edges, seens: &[u32])
+    requires { length seens.now ≡ length edges.old }
+    ensures { edges.new ≡ with_seen seens.now edges.old }
 {
-    let mut list = mem::replace(edges, Items::new(*seens.allocator())).into_vec();
+    let mut list = mem::replace(edges, Items::new(alloc)).into_vec();
     for (place, seen) in seens.iter().enumerate() {
         list[place].seen = *seen;
     }
