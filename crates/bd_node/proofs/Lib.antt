@@ -30,3 +30,4 @@ pub mod Compacting
 pub mod Relieving
 pub mod InPlace
 pub mod Going
+pub mod ReliefOf
