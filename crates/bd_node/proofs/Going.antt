@@ -1,7 +1,6 @@
 -- Which messages go down an edge, and what is to change in their node.
 use Rattle.std.proofs.Common.{◌≡◌, ◌↔◌, ◌⊎◌, ℕ, zero, suc, ◌+◌, ◌<◌, ◌≤◌, Bool, true, false, List, [], ◌∷◌, ◌++◌, length, take, drop, set, map, get_or, refl, sym, ap, subst, ◌∙◌, Option, Some, arith, inl, inr, add-one}
 use Rattle.std.specs.Prelude.{slice_get, IsTrue}
-use Rattle.std.specs.List.{AllByRecursion}
 use Rattle.std.proofs.lemmas.Bool.{cases_lt}
 use Rattle.std.proofs.lemmas.List.{get_or_default, map-append, take_all, take_more}
 use Rattle.std.proofs.lemmas.Option.{same_Some, none-some, slice_get_read, slice_get_within}
@@ -13,12 +12,12 @@ use Rattle.bd_node.specs.Touching.{CanTouch}
 use Rattle.bd_node.specs.Compaction.{IsMask, lowered}
 use Rattle.bd_node.specs.Keeping.{stay_count}
 use Rattle.bd_node.specs.Shape.{end_before, AreRising, SomeEdge, IsPending}
-use Rattle.bd_node.specs.Pushes.{seen_by, with_seen}
-use Rattle.bd_node.specs.Reliefs.{IsGoing, ArePlain, after_seeing}
+use Rattle.bd_node.specs.Pushes.{with_seen}
+use Rattle.bd_node.specs.Reliefs.{IsGoing, ArePlain}
 use Rattle.bd_node.proofs.Keeping.{count-yes, count-skip}
 use Rattle.bd_node.proofs.Marking.{IsSaid, said_more}
 use Rattle.bd_node.proofs.Owning.{edge_has}
-use Rattle.bd_node.proofs.Relieving.{put_at, put_is}
+use Rattle.bd_node.proofs.Relieving.{put_at}
 
 -- ---- the edge at a place
 

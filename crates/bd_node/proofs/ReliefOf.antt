@@ -1,5 +1,5 @@
 -- What is to change in a node from which messages go down an edge, as it is found.
-use Rattle.std.proofs.Common.{◌≡◌, ◌↔◌, ◌⊎◌, ℕ, zero, suc, ◌+◌, ◌^◌, ◌<◌, ◌≤◌, Bool, List, [], ◌∷◌, length, take, drop, map, refl, sym, ap, subst, ◌∙◌, Option, Some, arith, inl, inr, add-one}
+use Rattle.std.proofs.Common.{◌≡◌, ◌⊎◌, ℕ, zero, suc, ◌+◌, ◌^◌, ◌<◌, ◌≤◌, Bool, List, [], ◌∷◌, length, take, drop, map, refl, sym, ap, subst, ◌∙◌, Option, Some, arith, inl, inr, add-one}
 use Rattle.std.specs.Prelude.{slice_get}
 use Rattle.std.specs.List.{AllByRecursion}
 use Rattle.std.specs.Option.{ForSome}
@@ -7,8 +7,6 @@ use Rattle.std.proofs.lemmas.List.{length-map}
 use Rattle.std.proofs.lemmas.Option.{same_Some, none-some, slice_get_within}
 use Rattle.bd_keys.specs.Keys.{IsBelowEnd}
 use Rattle.bd_message.specs.declared.message.Message.{Message}
-use Rattle.bd_message.specs.Messages.{IsPlain}
-use Rattle.bd_node.specs.declared.index.Index.{Index}
 use Rattle.bd_node.specs.declared.node.Edge.{Edge}
 use Rattle.bd_node.specs.declared.node.Node.{Node}
 use Rattle.bd_node.specs.declared.node.Node.TheVariants.{Inner}
@@ -18,7 +16,7 @@ use Rattle.bd_node.specs.Keeping.{staying, stay_count}
 use Rattle.bd_node.specs.Pushes.{seen_by, with_seen, IsPlainFor, CanRelieve, IsReliefOf}
 use Rattle.bd_node.specs.Reliefs.{CanSee, IsGoing, ArePlain, after_seeing}
 use Rattle.bd_node.specs.Touching.{CanTouch}
-use Rattle.bd_node.specs.Shape.{end_before, AreRising, EachEdge, SomeEdge, IsEdge, IsPending, IsInner, IsShape}
+use Rattle.bd_node.specs.Shape.{end_before, AreRising, SomeEdge, IsEdge, IsPending, IsInner, IsShape}
 use Rattle.bd_node.proofs.Compacting.{few_wait}
 use Rattle.bd_node.proofs.Edges.{EachEdge-weaker}
 use Rattle.bd_node.proofs.Going.{counted_edges}

@@ -1,4 +1,4 @@
-use Rattle.std.proofs.Common.{◌≡◌, ◌<◌, ◌≤◌, List, length, get_or, sym, ap, subst, ◌∙◌}
+use Rattle.std.proofs.Common.{◌<◌, ◌≤◌, List, length, get_or, ap, subst, ◌∙◌}
 use Rattle.bd_message.specs.declared.message.Message.{Message}
 use Rattle.bd_node.proofs.Going.{left_more, left_all}
 use Rattle.bd_node.proofs.relief.left.Goals as goal

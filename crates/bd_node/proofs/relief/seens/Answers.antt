@@ -1,4 +1,4 @@
-use Rattle.std.proofs.Common.{◌≡◌, ◌≤◌, length, get_or, sym, ◌∙◌, Some, arith}
+use Rattle.std.proofs.Common.{◌≡◌, ◌≤◌, length, Some, arith}
 use Rattle.std.specs.Prelude.{slice_get}
 use Rattle.bd_node.specs.declared.node.Edge.{Edge}
 use Rattle.bd_node.specs.Keeping.{stay_count}
