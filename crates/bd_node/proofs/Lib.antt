@@ -26,3 +26,8 @@ pub mod Halving
 pub mod Parts
 pub mod Owning
 pub mod Marking
+pub mod Compacting
+pub mod Relieving
+pub mod InPlace
+pub mod Going
+pub mod ReliefOf
