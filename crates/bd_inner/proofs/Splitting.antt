@@ -24,7 +24,7 @@ use Rattle.bd_node.specs.Keeping.{staying}
 use Rattle.bd_node.specs.Parts.{edges_of}
 use Rattle.bd_node.specs.Compaction.{IsLoose, lowered, IsSwept}
 use Rattle.bd_inner.specs.Halves.{goto_times, bare_edge, IsHalf, AreHalves}
-use Rattle.bd_inner.proofs.Compacting.{count_names, count_names-append, edge_names-lowered, compacted_shape, compacted_level, compacted_meaning, compacted_size, compacted_times}
+use Rattle.bd_node.proofs.Compacting.{count_names, count_names-append, edge_names-lowered, compacted_shape, compacted_level, compacted_meaning, compacted_size, compacted_times}
 
 -- ---- how many messages can wait
 

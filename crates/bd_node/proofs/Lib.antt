@@ -27,3 +27,5 @@ pub mod Halving
 pub mod Parts
 pub mod Owning
 pub mod Marking
+pub mod Compacting
+pub mod Relieving
