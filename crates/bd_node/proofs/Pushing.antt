@@ -14,27 +14,19 @@ use Rattle.bd_node.specs.declared.push.Gain.TheVariants.{Messages, Entries}
 use Rattle.bd_node.specs.declared.push.Push.{Push}
 use Rattle.bd_node.specs.Nodes.{level_of, buffer_size, names, times}
 use Rattle.bd_node.specs.Meaning.{Nodes}
-use Rattle.bd_node.specs.Parts.{IsEdgeAt, buffer_of}
+use Rattle.bd_node.specs.Parts.{IsEdgeAt}
 use Rattle.bd_node.specs.Shape.{IsShape}
-use Rattle.bd_node.specs.Tables.{Table, IsKept, IsTable, IsLower, IsNodeOf, IsStored, IsSound, sum_below, times_in, one_if, references}
+use Rattle.bd_node.specs.Tables.{Table, IsKept, IsTable, IsLower, IsNodeOf, IsStored, IsSound, times_in, one_if, references}
 use Rattle.bd_node.specs.Private.{IsPrivate}
 use Rattle.bd_node.specs.Steps.{given, after, level_or, level_after, IsNamable, IsPut, IsStep, IsInPlace, IsTableAfter, IsCommitted}
 use Rattle.bd_node.specs.Pushes.{IsRelieved, CanRelieve, CanMake, CanPush, IsPush, IsPushStep, IsGain, HasRoomFor, gained, push_step}
 use Rattle.bd_node.proofs.Lookup.{each_weaker, each_named}
 use Rattle.bd_node.proofs.Sums.{sum_same}
-use Rattle.bd_node.proofs.Sound.{kept_there, node_of, named_lower}
+use Rattle.bd_node.proofs.Sound.{node_of, named_lower}
 use Rattle.bd_node.proofs.Stepping.{by_given, given-old, given-new, changed_at-same, changed_at-other, after-none, after-some}
 use Rattle.bd_node.proofs.Appending.{shape_appended, level_appended, names_appended}
 use Rattle.bd_node.proofs.Closing.{by_node}
-
-relieved_level : (n : Node) (place : ℕ) (e : Edge) (count : ℕ) (above : Node) → IsRelieved n place e count above → level_of above ≡ level_of n
-relieved_level n place e count above relieved = ?
-
-relieved_shape : (n : Node) (place : ℕ) (e : Edge) (count : ℕ) (above : Node) → IsShape n → IsEdgeAt n place e → e.seen + count ≤ length (buffer_of n) → IsRelieved n place e count above → IsShape above
-relieved_shape n place e count above shape here there relieved = ?
-
-relieved_names : (n : Node) (place count : ℕ) (can : CanRelieve n place count) (above : Node) → IsShape n → IsRelieved n place can.edge count above → names above ≡ names n
-relieved_names n place count can above shape relieved = ?
+use Rattle.bd_node.proofs.Relieving.{relieved_level, relieved_shape, relieved_names}
 
 -- ---- nodes like others
 
@@ -126,9 +118,9 @@ gained_level m (Entries entries) h = sym h.0
 -- the child, which has none but its own
 gained_like : (m : Node) (gain : Gain) → IsShape m → IsGain (level_of m) gain → HasRoomFor m gain → IsLike m (gained m gain)
 gained_like m (Messages list) shape h room = record {
-  shape = shape_appended m list shape h.1.0 room;
+  shape = shape_appended m list shape h.1 room;
   level = level_appended m list;
-  names_are = names_appended m list h.1.1;
+  names_are = names_appended m list h.2;
 }
 gained_like m (Entries entries) shape h room = record {
   shape = h.1;
@@ -218,10 +210,9 @@ push_is_step t push n m step table is n_of m_of can makes =
       made = tt;
       changes = (
         record { kept = is.child; put = put_like t made (t.level push.child) m (gained m push.gain) same m_of (below_like t push n m is m_of.shape m_of.level_is can) },
-        record { kept = is.parent; put = put_like t made (t.level push.parent) n makes.above same n_of (above_like t push n m step n_of.shape can makes) },
-        tt,
+        (record { kept = is.parent; put = put_like t made (t.level push.parent) n makes.above same n_of (above_like t push n m step n_of.shape can makes) }, tt),
       );
-      once = ((apart t push is, tt), tt, tt);
+      once = ((apart t push is, tt), (tt, tt));
       root = inl table.root;
       inner = omega (arith, same t.root, table.inner);
       used = λ id high low. absurd (omega (arith, low));
@@ -232,7 +223,7 @@ push_in_place nodes t push n m step s is n_there m_there can makes =
     let same : (id : ℕ) → level_after t step id ≡ t.level id =
     push_levels t push n m step s.table is (node_of nodes t s push.parent n n_there).level_is (node_of nodes t s push.child m m_there).level_is makes in
     record {
-      private = subst (λ (x : Step). AllByRecursion (λ (c : Change). IsPrivate nodes t c.id) x.changes) (sym makes.is) (can.child_private, can.parent_private, tt);
+      private = subst (λ (x : Step). AllByRecursion (λ (c : Change). IsPrivate nodes t c.id) x.changes) (sym makes.is) (can.child_private, (can.parent_private, tt));
       above = λ id x there none.
           each_named (λ c. level_after t step c < level_of x) (names x) (λ c one.
           omega (arith, same c, (named_lower nodes t s id x there c one).lower, (node_of nodes t s id x there).level_is));
