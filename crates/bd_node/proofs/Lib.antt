@@ -21,6 +21,7 @@ pub mod Appending
 pub mod Counting
 pub mod Closing
 pub mod Extending
+pub mod Pushing
 pub mod LawLemmas
 pub mod Halving
 pub mod Parts
