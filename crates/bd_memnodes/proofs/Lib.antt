@@ -9,3 +9,5 @@ pub mod Appended
 pub mod Extended
 pub mod Views
 pub mod Keeping
+pub mod StandIn
+pub mod Pushed
