@@ -24,23 +24,8 @@ use Rattle.bd_node.specs.Keeping.{staying}
 use Rattle.bd_node.specs.Parts.{edges_of}
 use Rattle.bd_node.specs.Compaction.{IsLoose, lowered, IsSwept}
 use Rattle.bd_inner.specs.Halves.{goto_times, bare_edge, IsHalf, AreHalves}
+pub use Rattle.bd_node.proofs.Compacting.{few_wait}
 use Rattle.bd_node.proofs.Compacting.{count_names, count_names-append, edge_names-lowered, compacted_shape, compacted_level, compacted_meaning, compacted_size, compacted_times}
-
--- ---- how many messages can wait
-
-size_some : (m : Message) → 16 ≤ size m
-size_some (Put key value) = omega arith
-size_some (Del key) = omega arith
-size_some (Patch key off bytes) = omega arith
-size_some (Cut prefix from) = omega arith
-size_some (Goto prefix source child) = omega arith
-
-sizes_some : (ms : List Message) → 16 * length ms ≤ sum_by size ms
-sizes_some [] = omega arith
-sizes_some (m ∷ ms) = let more : 16 * length ms ≤ sum_by size ms = sizes_some ms in let one : 16 ≤ size m = size_some m in omega (arith, sum_by-cons size m ms)
-
-pub few_wait : (level : ℕ) (es : List Edge) (buffer : List Message) → IsInner level es buffer → length buffer ≤ 2048
-few_wait level es buffer h = let some : 16 * length buffer ≤ sum_by size buffer = sizes_some buffer in let high : sum_by size buffer ≤ buffer_limit = h.size in omega arith
 
 -- ---- edges before and after a place
 

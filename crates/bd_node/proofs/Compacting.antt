@@ -1,5 +1,5 @@
 -- Compacted nodes: well-formed, and they have what they had.
-use Rattle.std.proofs.Common.{◌≡◌, ℕ, zero, suc, ◌+◌, ◌≤◌, Bool, true, false, cond, List, [], ◌∷◌, ◌++◌, length, take, drop, map, count_by, refl, sym, ap, subst, ◌∙◌, Option, Some, arith, inl, inr}
+use Rattle.std.proofs.Common.{◌≡◌, ℕ, zero, suc, ◌+◌, ◌*◌, ◌≤◌, Bool, true, false, cond, List, [], ◌∷◌, ◌++◌, length, take, drop, map, count_by, refl, sym, ap, subst, ◌∙◌, Option, Some, arith, inl, inr}
 use Rattle.std.specs.Prelude.{slice_get, ◌==◌, count_by}
 use Rattle.std.specs.List.{AllByRecursion, flat_map, sum_by}
 use Rattle.std.specs.Ordering.{is_lt}
@@ -9,7 +9,9 @@ use Rattle.std.proofs.lemmas.Option.{same_Some, none-some}
 use Rattle.std.proofs.lemmas.List.Sums.{sum_by-cons, sum_by-append}
 use Rattle.std.proofs.lemmas.List.Folds.{flat_map-map}
 use Rattle.bd_keys.specs.Keys.{key_cmp, InRange}
+use Rattle.bd_limits.specs.Limits.{buffer_limit}
 use Rattle.bd_message.specs.declared.message.Message.{Message}
+use Rattle.bd_message.specs.declared.message.Message.TheVariants.{Put, Del, Patch, Cut, Goto}
 use Rattle.bd_message.specs.Messages.{IsMessage, size}
 use Rattle.bd_message.specs.Effect.{NodesAt, act, acts}
 use Rattle.bd_message.proofs.Finds.{not_both}
@@ -229,3 +231,19 @@ pub compacted_times : (n m : Node) → IsCompacted n m → (c : ℕ) → times m
 compacted_times (Leaf entries) m c name = subst (λ (n : Node). times n name ≤ times (Leaf entries) name) (sym c) (omega arith)
 compacted_times (Inner level es buffer) m c name =
     subst (λ (n : Node). times n name ≤ times (Inner level es buffer) name) (sym c.swept) (swept_times level es buffer c.mask name)
+
+-- ---- how many messages can wait
+
+size_some : (m : Message) → 16 ≤ size m
+size_some (Put key value) = omega arith
+size_some (Del key) = omega arith
+size_some (Patch key off bytes) = omega arith
+size_some (Cut prefix from) = omega arith
+size_some (Goto prefix source child) = omega arith
+
+sizes_some : (ms : List Message) → 16 * length ms ≤ sum_by size ms
+sizes_some [] = omega arith
+sizes_some (m ∷ ms) = let more : 16 * length ms ≤ sum_by size ms = sizes_some ms in let one : 16 ≤ size m = size_some m in omega (arith, sum_by-cons size m ms)
+
+pub few_wait : (level : ℕ) (es : List Edge) (buffer : List Message) → IsInner level es buffer → length buffer ≤ 2048
+few_wait level es buffer h = let some : 16 * length buffer ≤ sum_by size buffer = sizes_some buffer in let high : sum_by size buffer ≤ buffer_limit = h.size in omega arith

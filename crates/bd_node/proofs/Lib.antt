@@ -29,3 +29,6 @@ pub mod Owning
 pub mod Marking
 pub mod Compacting
 pub mod Relieving
+pub mod InPlace
+pub mod Going
+pub mod ReliefOf

@@ -1,6 +1,6 @@
 -- A node from which messages have gone down an edge: well-formed, and it names what it named.
-use Rattle.std.proofs.Common.{◌≡◌, ℕ, zero, suc, ◌+◌, ◌<◌, ◌≤◌, Bool, true, false, List, [], ◌∷◌, ◌++◌, length, take, drop, refl, sym, ap, subst, ◌∙◌, Option, None, Some, inl, inr, ◌⊎◌, arith, add-one}
-use Rattle.std.specs.Prelude.{slice_get, map}
+use Rattle.std.proofs.Common.{◌≡◌, ℕ, zero, suc, ◌+◌, ◌<◌, ◌≤◌, Bool, true, false, List, [], ◌∷◌, ◌++◌, length, take, drop, refl, sym, ap, subst, ◌∙◌, Option, Some, inl, inr, ◌⊎◌, arith, add-one}
+use Rattle.std.specs.Prelude.{slice_get}
 use Rattle.std.specs.List.{AllByRecursion, flat_map}
 use Rattle.std.proofs.lemmas.Bool.{cases_lt}
 use Rattle.std.proofs.lemmas.Option.{same_Some, none-some}
@@ -13,9 +13,9 @@ use Rattle.bd_node.specs.declared.node.Node.{Node}
 use Rattle.bd_node.specs.declared.node.Node.TheVariants.{Leaf, Inner}
 use Rattle.bd_node.specs.Nodes.{level_of, message_names, edge_names, names}
 use Rattle.bd_node.specs.Shape.{end_before, EachEdge, SomeEdge, IsEdge, IsPending, IsInner, IsShape}
-use Rattle.bd_node.specs.Parts.{buffer_of, end_at, IsEdgeAt}
+use Rattle.bd_node.specs.Parts.{buffer_of, IsEdgeAt}
 use Rattle.bd_node.specs.Keeping.{staying}
-use Rattle.bd_node.specs.Compaction.{IsLoose, IsMask, lowered, IsSwept}
+use Rattle.bd_node.specs.Compaction.{IsLoose, IsMask, IsSwept}
 use Rattle.bd_node.specs.Pushes.{exchanged, seen_by, IsRelieved, IsPlainFor, CanRelieve}
 use Rattle.bd_node.proofs.Compacting.{compacted_shape, compacted_level, edge_names-lowered}
 
