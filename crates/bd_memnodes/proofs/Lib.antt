@@ -9,5 +9,4 @@ pub mod Appended
 pub mod Extended
 pub mod Views
 pub mod Keeping
-pub mod StandIn
 pub mod Pushed

@@ -16,7 +16,7 @@ use Rattle.bd_node.proofs.Lookup.{each_weaker}
 use Rattle.bd_node.proofs.Sound.{node_of}
 use Rattle.bd_node.proofs.Stepping.{after-none, after-some, by_given}
 use Rattle.bd_node.proofs.Closing.{begun}
-use Rattle.bd_memnodes.proofs.StandIn.{push_levels, push_is_step, push_in_place, pushed_after}
+use Rattle.bd_node.proofs.Pushing.{push_levels, push_is_step, push_in_place, pushed_after}
 use Rattle.bd_memnodes.specs.declared.kept.Kept.{Kept}
 use Rattle.bd_memnodes.specs.declared.plan.Exchange.{Exchange}
 use Rattle.bd_memnodes.specs.Maps.{nodes_in, count_in}

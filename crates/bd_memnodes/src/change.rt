@@ -14,7 +14,6 @@ ghost use Rattle.bd_memnodes.specs.Carried.{IsPlanOf, IsAdditionOf, IsStepOf, Sa
 
 use crate::kept::Kept;
 use crate::plan::{Addition, Plan, check_counts, exchanges};
-use crate::stand_in::step;
 use bd_message::{Counter, MapFault, Message};
 use bd_node::{Messages, Node, Nodes, Push, Step};
 use std::alloc::{AllocError, Global};
@@ -152,7 +151,7 @@ impl Kept {
         let Some(child) = self.nodes.get(&push.child) else {
             unreachable!()
         };
-        let made = step(push, alloc, self.root, parent, child)?;
+        let made = push.step(alloc, self.root, parent, child)?;
         match made {
             Some(step) => Ok(step),
             None => unreachable!(),

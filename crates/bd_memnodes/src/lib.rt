@@ -6,7 +6,6 @@ mod carry;
 mod change;
 mod kept;
 mod plan;
-mod stand_in;
 mod store;
 
 pub use store::MemNodes;
