@@ -7,7 +7,7 @@ use Rattle.bd_limits.specs.Limits.{soft_limit, batch_limit}
 use Rattle.bd_message.specs.declared.fault.MapFault.{MapFault}
 use Rattle.bd_message.specs.declared.message.Message.{Message}
 use Rattle.bd_message.specs.KeyMaps.{HasMapCause, NeverWorn}
-use Rattle.bd_message.specs.Messages.{IsMessage, size}
+use Rattle.bd_message.specs.Messages.{IsMessage, IsPlain, size}
 use Rattle.bd_message.proofs.Causes.{cause_weaker}
 use Rattle.bd_node.specs.declared.node.Change.{Change}
 use Rattle.bd_node.specs.declared.node.Edge.{Edge}
@@ -70,7 +70,7 @@ gain_is : (level : ℕ) (m : Node) (list : List Message) (gain : Gain) → level
 gain_is level m list (Messages own) is each got = (
   (let low : 1 ≤ level_of m = got.1 in omega arith),
   subst (λ (l : List Message). AllByRecursion IsMessage l) (sym got.0) each,
-  subst (λ (l : List Message). AllByRecursion _ l) (sym got.0) got.2,
+  subst (λ (l : List Message). AllByRecursion IsPlain l) (sym got.0) got.2,
 )
 gain_is level m list (Entries new) is each got = (sym is ∙ ap level_of got.1, got.3)
 

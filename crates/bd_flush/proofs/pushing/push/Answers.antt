@@ -23,68 +23,68 @@ push_work-requires-clause-plain g c = waiting_plain (g.S.NodeStore.table c.args.
 pub commit-requires-clause-step : goal.commit-requires-clause-step
 commit-requires-clause-step g c =
     planned_may (g.S.NodeStore.table c.args.store.now) (reverse c.args.above.now) c.args.parent c.args.place c.args.child c.in-Ready.step
-    (is_planned (g.S.NodeStore.table c.args.store.now) (reverse c.args.above.now) c.args.parent c.args.place c.args.child c.in-Ready.step c.in_ok-plan.field-0 c.in-Planned.plan c.root-root.result c.next_id-next.result c.root-root.ensures.table c.requires.can c.requires.way c.root-root.ensures.value c.next_id-next.ensures.value (omega arith) c.in-Planned.is c.in-Ready.is c.in_ok-plan.ensures)
+    (is_planned (g.S.NodeStore.table c.args.store.now) (reverse c.args.above.now) c.args.parent c.args.place c.args.child c.in-Ready.step c.in_ok-push.field-0 c.in-Planned.plan c.root-root.result c.next_id-next.result c.root-root.ensures.table c.requires.can c.requires.way c.root-root.ensures.value c.next_id-next.ensures.value (omega arith) c.in-Planned.is c.in-Ready.is c.in_ok-push.ensures)
 
 pub commit-requires-clause-in_place : goal.commit-requires-clause-in_place
 commit-requires-clause-in_place g c = λ known sound.
     planned_in_place (g.S.NodeStore.nodes c.args.store.now) (g.S.NodeStore.table c.args.store.now) (reverse c.args.above.now) c.args.parent c.args.place c.args.child c.in-Ready.step
-    (record { of = (is_planned (g.S.NodeStore.table c.args.store.now) (reverse c.args.above.now) c.args.parent c.args.place c.args.child c.in-Ready.step c.in_ok-plan.field-0 c.in-Planned.plan c.root-root.result c.next_id-next.result c.root-root.ensures.table c.requires.can c.requires.way c.root-root.ensures.value c.next_id-next.ensures.value (omega arith) c.in-Planned.is c.in-Ready.is c.in_ok-plan.ensures); sound = sound; family = c.requires.family known sound; contents = c.requires.contents known sound })
+    (record { of = (is_planned (g.S.NodeStore.table c.args.store.now) (reverse c.args.above.now) c.args.parent c.args.place c.args.child c.in-Ready.step c.in_ok-push.field-0 c.in-Planned.plan c.root-root.result c.next_id-next.result c.root-root.ensures.table c.requires.can c.requires.way c.root-root.ensures.value c.next_id-next.ensures.value (omega arith) c.in-Planned.is c.in-Ready.is c.in_ok-push.ensures); sound = sound; family = c.requires.family known sound; contents = c.requires.contents known sound })
 
 pub returns-clause-flushed : goal.returns-clause-flushed
 returns-clause-flushed g c = λ known sound.
     on_planned_flushed (g.S.NodeStore.nodes c.args.store.now) (g.S.NodeStore.table c.args.store.now) (reverse c.args.above.now) c.args.parent c.args.place c.args.child c.in-Ready.step (g.S.NodeStore.nodes c.commit.new.self) (g.S.NodeStore.table c.commit.new.self) c.commit.result
-    (record { of = (is_planned (g.S.NodeStore.table c.args.store.now) (reverse c.args.above.now) c.args.parent c.args.place c.args.child c.in-Ready.step c.in_ok-plan.field-0 c.in-Planned.plan c.root-root.result c.next_id-next.result c.root-root.ensures.table c.requires.can c.requires.way c.root-root.ensures.value c.next_id-next.ensures.value (omega arith) c.in-Planned.is c.in-Ready.is c.in_ok-plan.ensures); sound = sound; family = c.requires.family known sound; contents = c.requires.contents known sound }) c.commit.ensures.table (c.commit.ensures.committed known sound)
+    (record { of = (is_planned (g.S.NodeStore.table c.args.store.now) (reverse c.args.above.now) c.args.parent c.args.place c.args.child c.in-Ready.step c.in_ok-push.field-0 c.in-Planned.plan c.root-root.result c.next_id-next.result c.root-root.ensures.table c.requires.can c.requires.way c.root-root.ensures.value c.next_id-next.ensures.value (omega arith) c.in-Planned.is c.in-Ready.is c.in_ok-push.ensures); sound = sound; family = c.requires.family known sound; contents = c.requires.contents known sound }) c.commit.ensures.table (c.commit.ensures.committed known sound)
 
 pub returns-clause-made : goal.returns-clause-made
 returns-clause-made g c = λ known sound.
-    on_made (IsSomePush (g.S.NodeStore.table c.args.store.now).root (g.S.NodeStore.table c.args.store.now).next (reverse c.args.above.now) c.args.parent c.args.place c.args.child) (g.S.NodeStore.nodes c.args.store.now) (g.S.NodeStore.table c.args.store.now) c.in-Ready.step (g.S.NodeStore.nodes c.commit.new.self) (g.S.NodeStore.table c.commit.new.self) c.commit.result (some_push (g.S.NodeStore.table c.args.store.now) (reverse c.args.above.now) c.args.parent c.args.place c.args.child c.in-Ready.step (is_planned (g.S.NodeStore.table c.args.store.now) (reverse c.args.above.now) c.args.parent c.args.place c.args.child c.in-Ready.step c.in_ok-plan.field-0 c.in-Planned.plan c.root-root.result c.next_id-next.result c.root-root.ensures.table c.requires.can c.requires.way c.root-root.ensures.value c.next_id-next.ensures.value (omega arith) c.in-Planned.is c.in-Ready.is c.in_ok-plan.ensures)) c.commit.ensures.table (c.commit.ensures.committed known sound)
+    on_made (IsSomePush (g.S.NodeStore.table c.args.store.now).root (g.S.NodeStore.table c.args.store.now).next (reverse c.args.above.now) c.args.parent c.args.place c.args.child) (g.S.NodeStore.nodes c.args.store.now) (g.S.NodeStore.table c.args.store.now) c.in-Ready.step (g.S.NodeStore.nodes c.commit.new.self) (g.S.NodeStore.table c.commit.new.self) c.commit.result (some_push (g.S.NodeStore.table c.args.store.now) (reverse c.args.above.now) c.args.parent c.args.place c.args.child c.in-Ready.step (is_planned (g.S.NodeStore.table c.args.store.now) (reverse c.args.above.now) c.args.parent c.args.place c.args.child c.in-Ready.step c.in_ok-push.field-0 c.in-Planned.plan c.root-root.result c.next_id-next.result c.root-root.ensures.table c.requires.can c.requires.way c.root-root.ensures.value c.next_id-next.ensures.value (omega arith) c.in-Planned.is c.in-Ready.is c.in_ok-push.ensures)) c.commit.ensures.table (c.commit.ensures.committed known sound)
 
 pub returns-clause-table : goal.returns-clause-table
 returns-clause-table g c =
     on_planned_table (g.S.NodeStore.table c.args.store.now) (reverse c.args.above.now) c.args.parent c.args.place c.args.child c.in-Ready.step (g.S.NodeStore.table c.commit.new.self) c.commit.result
-    (is_planned (g.S.NodeStore.table c.args.store.now) (reverse c.args.above.now) c.args.parent c.args.place c.args.child c.in-Ready.step c.in_ok-plan.field-0 c.in-Planned.plan c.root-root.result c.next_id-next.result c.root-root.ensures.table c.requires.can c.requires.way c.root-root.ensures.value c.next_id-next.ensures.value (omega arith) c.in-Planned.is c.in-Ready.is c.in_ok-plan.ensures) c.commit.ensures.table
+    (is_planned (g.S.NodeStore.table c.args.store.now) (reverse c.args.above.now) c.args.parent c.args.place c.args.child c.in-Ready.step c.in_ok-push.field-0 c.in-Planned.plan c.root-root.result c.next_id-next.result c.root-root.ensures.table c.requires.can c.requires.way c.root-root.ensures.value c.next_id-next.ensures.value (omega arith) c.in-Planned.is c.in-Ready.is c.in_ok-push.ensures) c.commit.ensures.table
 
 pub returns-clause-few_visits : goal.returns-clause-few_visits
 returns-clause-few_visits g c =
     on_planned_visits (g.S.NodeStore.table c.args.store.now) (reverse c.args.above.now) c.args.parent c.args.place c.args.child c.in-Ready.step (g.S.NodeStore.visit_count c.args.store.now) (g.S.NodeStore.visit_count c.commit.new.self) c.commit.result
-    (is_planned (g.S.NodeStore.table c.args.store.now) (reverse c.args.above.now) c.args.parent c.args.place c.args.child c.in-Ready.step c.in_ok-plan.field-0 c.in-Planned.plan c.root-root.result c.next_id-next.result c.root-root.ensures.table c.requires.can c.requires.way c.root-root.ensures.value c.next_id-next.ensures.value (omega arith) c.in-Planned.is c.in-Ready.is c.in_ok-plan.ensures) c.commit.ensures.visits c.commit.ensures.err_visits
+    (is_planned (g.S.NodeStore.table c.args.store.now) (reverse c.args.above.now) c.args.parent c.args.place c.args.child c.in-Ready.step c.in_ok-push.field-0 c.in-Planned.plan c.root-root.result c.next_id-next.result c.root-root.ensures.table c.requires.can c.requires.way c.root-root.ensures.value c.next_id-next.ensures.value (omega arith) c.in-Planned.is c.in-Ready.is c.in_ok-push.ensures) c.commit.ensures.visits c.commit.ensures.err_visits
 
 pub returns-clause-cause : goal.returns-clause-cause
 returns-clause-cause g c =
-    worn_of (g.S.NodeStore.fault_count c.args.store.now) (g.S.NodeStore.fault_count c.commit.new.self) (g.S.NodeStore.bad c.commit.new.self) (IsSomePush (g.S.NodeStore.table c.args.store.now).root (g.S.NodeStore.table c.args.store.now).next (reverse c.args.above.now) c.args.parent c.args.place c.args.child) (IsHighPush c.args.parent.node.value c.args.place c.args.child.node.value (reverse c.args.above.now)) (g.S.NodeStore.table c.args.store.now) c.in-Ready.step c.commit.result (some_push (g.S.NodeStore.table c.args.store.now) (reverse c.args.above.now) c.args.parent c.args.place c.args.child c.in-Ready.step (is_planned (g.S.NodeStore.table c.args.store.now) (reverse c.args.above.now) c.args.parent c.args.place c.args.child c.in-Ready.step c.in_ok-plan.field-0 c.in-Planned.plan c.root-root.result c.next_id-next.result c.root-root.ensures.table c.requires.can c.requires.way c.root-root.ensures.value c.next_id-next.ensures.value (omega arith) c.in-Planned.is c.in-Ready.is c.in_ok-plan.ensures)) c.commit.ensures.cause
+    worn_of (g.S.NodeStore.fault_count c.args.store.now) (g.S.NodeStore.fault_count c.commit.new.self) (g.S.NodeStore.bad c.commit.new.self) (IsSomePush (g.S.NodeStore.table c.args.store.now).root (g.S.NodeStore.table c.args.store.now).next (reverse c.args.above.now) c.args.parent c.args.place c.args.child) (IsHighPush c.args.parent.node.value c.args.place c.args.child.node.value (reverse c.args.above.now)) (g.S.NodeStore.table c.args.store.now) c.in-Ready.step c.commit.result (some_push (g.S.NodeStore.table c.args.store.now) (reverse c.args.above.now) c.args.parent c.args.place c.args.child c.in-Ready.step (is_planned (g.S.NodeStore.table c.args.store.now) (reverse c.args.above.now) c.args.parent c.args.place c.args.child c.in-Ready.step c.in_ok-push.field-0 c.in-Planned.plan c.root-root.result c.next_id-next.result c.root-root.ensures.table c.requires.can c.requires.way c.root-root.ensures.value c.next_id-next.ensures.value (omega arith) c.in-Planned.is c.in-Ready.is c.in_ok-push.ensures)) c.commit.ensures.cause
 
 pub returns-in-NoLevel-clause-cause : goal.returns-in-NoLevel-clause-cause
 returns-in-NoLevel-clause-cause g c =
-    no_level_cause (g.S.NodeStore.fault_count c.args.store.now) (g.S.NodeStore.bad c.args.store.now) (IsSomePush (g.S.NodeStore.table c.args.store.now).root (g.S.NodeStore.table c.args.store.now).next (reverse c.args.above.now) c.args.parent c.args.place c.args.child) (g.S.NodeStore.table c.args.store.now) (reverse c.args.above.now) c.args.parent c.args.place c.args.child c.in_ok-plan.field-0 c.in-Planned.plan c.root-root.result c.next_id-next.result c.in-Planned.is c.in-NoLevel.is c.in_ok-plan.ensures
+    no_level_cause (g.S.NodeStore.fault_count c.args.store.now) (g.S.NodeStore.bad c.args.store.now) (IsSomePush (g.S.NodeStore.table c.args.store.now).root (g.S.NodeStore.table c.args.store.now).next (reverse c.args.above.now) c.args.parent c.args.place c.args.child) (g.S.NodeStore.table c.args.store.now) (reverse c.args.above.now) c.args.parent c.args.place c.args.child c.in_ok-push.field-0 c.in-Planned.plan c.root-root.result c.next_id-next.result c.in-Planned.is c.in-NoLevel.is c.in_ok-push.ensures
 
 pub returns-in-NoId-clause-cause : goal.returns-in-NoId-clause-cause
 returns-in-NoId-clause-cause g c =
-    no_id_cause (g.S.NodeStore.fault_count c.args.store.now) (g.S.NodeStore.bad c.args.store.now) (IsHighPush c.args.parent.node.value c.args.place c.args.child.node.value (reverse c.args.above.now)) (g.S.NodeStore.table c.args.store.now) (reverse c.args.above.now) c.args.parent c.args.place c.args.child c.in_ok-plan.field-0 c.in-Planned.plan c.root-root.result c.next_id-next.result c.root-root.ensures.value c.next_id-next.ensures.value c.in-Planned.is c.in-NoId.is c.in_ok-plan.ensures
+    no_id_cause (g.S.NodeStore.fault_count c.args.store.now) (g.S.NodeStore.bad c.args.store.now) (IsHighPush c.args.parent.node.value c.args.place c.args.child.node.value (reverse c.args.above.now)) (g.S.NodeStore.table c.args.store.now) (reverse c.args.above.now) c.args.parent c.args.place c.args.child c.in_ok-push.field-0 c.in-Planned.plan c.root-root.result c.next_id-next.result c.root-root.ensures.value c.next_id-next.ensures.value c.in-Planned.is c.in-NoId.is c.in_ok-push.ensures
 
 pub push_down-requires-clause-push : goal.push_down-requires-clause-push
 push_down-requires-clause-push g c =
     may_push_down (g.S.NodeStore.table c.args.store.now) c.args.parent c.args.place c.args.child c.in-Down.push
-    (is_down (g.S.NodeStore.table c.args.store.now) (reverse c.args.above.now) c.args.parent c.args.place c.args.child c.in-Down.push c.in_ok-plan.field-0 c.root-root.result c.next_id-next.result c.root-root.ensures.table c.requires.can c.next_id-next.ensures.value (omega arith) c.in-Down.is c.in_ok-plan.ensures)
+    (is_down (g.S.NodeStore.table c.args.store.now) (reverse c.args.above.now) c.args.parent c.args.place c.args.child c.in-Down.push c.in_ok-push.field-0 c.root-root.result c.next_id-next.result c.root-root.ensures.table c.requires.can c.next_id-next.ensures.value (omega arith) c.in-Down.is c.in_ok-push.ensures)
 
 pub push_down-requires-clause-can : goal.push_down-requires-clause-can
 push_down-requires-clause-can g c = λ known sound.
     can_push_down (g.S.NodeStore.nodes c.args.store.now) (g.S.NodeStore.table c.args.store.now) c.args.parent c.args.place c.args.child c.in-Down.push
-    (is_down (g.S.NodeStore.table c.args.store.now) (reverse c.args.above.now) c.args.parent c.args.place c.args.child c.in-Down.push c.in_ok-plan.field-0 c.root-root.result c.next_id-next.result c.root-root.ensures.table c.requires.can c.next_id-next.ensures.value (omega arith) c.in-Down.is c.in_ok-plan.ensures) (c.requires.family known sound)
+    (is_down (g.S.NodeStore.table c.args.store.now) (reverse c.args.above.now) c.args.parent c.args.place c.args.child c.in-Down.push c.in_ok-push.field-0 c.root-root.result c.next_id-next.result c.root-root.ensures.table c.requires.can c.next_id-next.ensures.value (omega arith) c.in-Down.is c.in_ok-push.ensures) (c.requires.family known sound)
 
 pub returns-in-Down-clause-flushed : goal.returns-in-Down-clause-flushed
 returns-in-Down-clause-flushed g c = λ known sound.
     on_down_flushed (g.S.NodeStore.nodes c.args.store.now) (g.S.NodeStore.table c.args.store.now) c.args.parent c.args.place c.args.child c.in-Down.push (g.S.NodeStore.nodes c.push_down.new.self) (g.S.NodeStore.table c.push_down.new.self) c.push_down.result
-    (is_down (g.S.NodeStore.table c.args.store.now) (reverse c.args.above.now) c.args.parent c.args.place c.args.child c.in-Down.push c.in_ok-plan.field-0 c.root-root.result c.next_id-next.result c.root-root.ensures.table c.requires.can c.next_id-next.ensures.value (omega arith) c.in-Down.is c.in_ok-plan.ensures) sound (c.requires.family known sound) (c.push_down.ensures.committed known sound)
+    (is_down (g.S.NodeStore.table c.args.store.now) (reverse c.args.above.now) c.args.parent c.args.place c.args.child c.in-Down.push c.in_ok-push.field-0 c.root-root.result c.next_id-next.result c.root-root.ensures.table c.requires.can c.next_id-next.ensures.value (omega arith) c.in-Down.is c.in_ok-push.ensures) sound (c.requires.family known sound) (c.push_down.ensures.committed known sound)
 
 pub returns-in-Down-clause-made : goal.returns-in-Down-clause-made
 returns-in-Down-clause-made g c = λ known sound.
     on_down_made (g.S.NodeStore.nodes c.args.store.now) (g.S.NodeStore.table c.args.store.now) (reverse c.args.above.now) c.args.parent c.args.place c.args.child c.in-Down.push (g.S.NodeStore.nodes c.push_down.new.self) (g.S.NodeStore.table c.push_down.new.self) c.push_down.result
-    (is_down (g.S.NodeStore.table c.args.store.now) (reverse c.args.above.now) c.args.parent c.args.place c.args.child c.in-Down.push c.in_ok-plan.field-0 c.root-root.result c.next_id-next.result c.root-root.ensures.table c.requires.can c.next_id-next.ensures.value (omega arith) c.in-Down.is c.in_ok-plan.ensures) (c.requires.family known sound) (c.push_down.ensures.committed known sound)
+    (is_down (g.S.NodeStore.table c.args.store.now) (reverse c.args.above.now) c.args.parent c.args.place c.args.child c.in-Down.push c.in_ok-push.field-0 c.root-root.result c.next_id-next.result c.root-root.ensures.table c.requires.can c.next_id-next.ensures.value (omega arith) c.in-Down.is c.in_ok-push.ensures) (c.requires.family known sound) (c.push_down.ensures.committed known sound)
 
 pub returns-in-Down-clause-table : goal.returns-in-Down-clause-table
 returns-in-Down-clause-table g c =
     on_down_table (IsLongPush c.args.parent.node.value c.args.place c.args.child.node.value × IsHardlyHigher (g.S.NodeStore.table c.args.store.now) (g.S.NodeStore.table c.push_down.new.self)) (g.S.NodeStore.table c.args.store.now) c.args.parent c.args.place c.args.child c.in-Down.push (g.S.NodeStore.table c.push_down.new.self) c.push_down.result
-    (is_down (g.S.NodeStore.table c.args.store.now) (reverse c.args.above.now) c.args.parent c.args.place c.args.child c.in-Down.push c.in_ok-plan.field-0 c.root-root.result c.next_id-next.result c.root-root.ensures.table c.requires.can c.next_id-next.ensures.value (omega arith) c.in-Down.is c.in_ok-plan.ensures) c.push_down.ensures.table
+    (is_down (g.S.NodeStore.table c.args.store.now) (reverse c.args.above.now) c.args.parent c.args.place c.args.child c.in-Down.push c.in_ok-push.field-0 c.root-root.result c.next_id-next.result c.root-root.ensures.table c.requires.can c.next_id-next.ensures.value (omega arith) c.in-Down.is c.in_ok-push.ensures) c.push_down.ensures.table
 
 pub returns-in-Down-clause-cause : goal.returns-in-Down-clause-cause
 returns-in-Down-clause-cause g c =
