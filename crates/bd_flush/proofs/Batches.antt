@@ -1,8 +1,8 @@
 -- What of a node's messages goes down an edge.
-use Rattle.std.proofs.Common.{◌≡◌, ℕ, zero, suc, ◌+◌, ◌^◌, ◌<◌, ◌≤◌, List, [], ◌∷◌, length, drop, refl, sym, ap, subst, ◌∙◌, Option, arith, get_or, inl, inr, Result, Ok, Err}
+use Rattle.std.proofs.Common.{◌≡◌, ℕ, zero, suc, ◌+◌, ◌^◌, ◌<◌, ◌≤◌, List, [], ◌∷◌, length, take, drop, refl, sym, ap, subst, ◌∙◌, Option, arith, get_or, inl, inr, Result, Ok, Err}
 use Rattle.std.specs.Prelude.{IfOk}
 use Rattle.std.specs.List.{AllByRecursion, All, sum_by}
-use Rattle.std.proofs.lemmas.List.Elements.{All-from_recursion}
+use Rattle.std.proofs.lemmas.List.Elements.{All-from_recursion, recursion_from_All}
 use Rattle.std.proofs.lemmas.Bool.{cases_lt}
 use Rattle.std.proofs.lemmas.Option.{same_Some}
 use Rattle.bd_limits.specs.Limits.{batch_limit, leaf_limit}
@@ -18,25 +18,26 @@ use Rattle.bd_inner.specs.declared.batches.Batch.{Batch}
 use Rattle.bd_node.specs.Parts.{edges_of, buffer_of, end_at, IsEdgeAt}
 use Rattle.bd_inner.specs.declared.halves.Halves.{Halves}
 use Rattle.bd_inner.specs.Halves.{AreHalves}
-use Rattle.bd_inner.specs.Batches.{IsBatch}
+use Rattle.bd_inner.specs.Batches.{CanMove, IsBatch}
 use Rattle.bd_node.specs.Compaction.{IsCompacted}
 use Rattle.bd_inner.specs.Exchanging.{FitsAt}
-use Rattle.bd_node.specs.Pushes.{exchanged}
 use Rattle.bd_inner.proofs.Splitting.{few_wait}
 use Rattle.bd_inner.proofs.Fitting.{seen_fits}
 use Rattle.bd_inner.proofs.Compacting.{compacted_shape}
 use Rattle.bd_inner.proofs.Exchanged.{exchanged_shape}
 use Rattle.bd_leaf.specs.Leaves.{entries_size, IsReceived}
 use Rattle.bd_flush.specs.declared.children.Parts.{Parts}
-use Rattle.bd_flush.specs.Pushing.{unseen, CanMoveSome, IsWaitedFor, IsEdgeBatch, IsPushInto, IsPartedOver, IsPushedOver, AreLongParts, ArePushed}
-use Rattle.bd_node.specs.Pushes.{seen_by, IsRelieved}
-use Rattle.bd_flush.specs.Pushing.IsPushInto.{received, fitted, split}
+use Rattle.bd_flush.specs.Pushing.{unseen, CanMoveSome, IsWaitedFor, IsEdgeBatch, IsPushInto, IsPartedOver, IsPushedOver, AreLongParts, ArePushed, IsDescent}
+use Rattle.bd_node.specs.declared.push.Gain.TheVariants.{Messages, Entries}
+use Rattle.bd_node.specs.Pushes.{exchanged, seen_by, IsPlainFor, IsRelieved}
+use Rattle.bd_flush.specs.Pushing.IsPushInto.{received, split}
 use Rattle.bd_flush.specs.Children.{IsSplitInto, IsLongIn, IsOver}
 use Rattle.bd_flush.specs.declared.children.Halving.{Halving}
 use Rattle.bd_flush.specs.declared.children.Halving.TheVariants.{Short, Long}
 use Rattle.bd_node.proofs.Parts.{some_edge, edge_here}
 use Rattle.bd_flush.proofs.ChildSplits.{fits_here}
-use Rattle.bd_flush.proofs.Pushed.{batch_low, batch_plain}
+use Rattle.bd_flush.proofs.GoingDown.{parts_plain}
+use Rattle.bd_flush.proofs.Pushed.{batch_low, batch_plain, each_taken}
 
 -- ---- a node's messages
 
@@ -112,6 +113,25 @@ are_received n place m next b parts low inner batch above half_is made_is =
           (received parts.node inner (above found.0 found.1)));
     }
 
+-- the same in place, where none of them names a node
+pub each_plain : (list messages : List Message) → list ≡ messages → All IsPlain list → AllByRecursion IsPlain messages
+each_plain list messages is h = subst (λ (l : List Message). AllByRecursion IsPlain l) is (recursion_from_All IsPlain list h)
+
+pub inner_descent : (n : Node) (place : ℕ) (m : Node) (b : Batch) → place < length (edges_of n) → 1 ≤ level_of m → ((e : Edge) → IsEdgeAt n place e → CanMoveSome n place e) → ((e : Edge) → IsEdgeAt n place e → IsEdgeBatch n place e b) → AllByRecursion IsPlain b.messages
+    → IsDescent n place m b.count (Messages b.messages)
+inner_descent n place m b low inner waiting batch plain =
+    let found = some_edge n place low in
+    let is : IsEdgeBatch n place found.0 b = batch found.0 found.1 in
+    record {
+      edge = found.0;
+      here = found.1;
+      batch = b;
+      moved = is;
+      count_is = refl;
+      plain = parts_plain found.0 (end_at n place) (take b.count (unseen n found.0)) b.messages (each_taken (CanMove found.0 (end_at n place)) b.count (unseen n found.0) (waiting found.0 found.1).each) is.batch.parts plain;
+      gained = (refl, inner, plain);
+    }
+
 -- ---- a leaf
 
 pub batch_plain_at : (n : Node) (place : ℕ) (b : Batch) → place < length (edges_of n) → ((e : Edge) → IsEdgeAt n place e → IsWaitedFor n place e) → ((e : Edge) → IsEdgeAt n place e → IsEdgeBatch n place e b) → AllByRecursion IsPlain b.messages
@@ -163,9 +183,8 @@ on_parted n place count next e f new halves (Ok (Short parts)) here same are is 
     subst (λ (x : Edge). IsSplitInto n place (seen_by x count) (Leaf new) next parts.node parts.half parts.made.items) (same_Some e d (sym here ∙ there))
     (subst (λ (g : Edge). IsSplitInto n place g (Leaf new) next parts.node parts.half parts.made.items) same (is (Leaf new) are))
 
-pub on_split : {E : Type 0} (n : Node) (place next : ℕ) (b : Batch) (old new : List Entry) (r : Result Halving E) → IsLeafBatch n place b old new → leaf_limit < entries_size new → IfOk r (IsPartedOver n place b.count new next) → IfOk r (IsPushedOver n place (Leaf old) next)
-on_split n place next b old new (Err x) h over is = tt
-on_split n place next b old new (Ok (Long f own)) h over is =
+pub split_over : (n : Node) (place next : ℕ) (b : Batch) (old new : List Entry) (halving : Halving) → IsLeafBatch n place b old new → leaf_limit < entries_size new → IsPartedOver n place b.count new next halving → IsPushedOver n place (Leaf old) next halving
+split_over n place next b old new (Long f own) h over is =
     let found = some_edge n place h.low in
     record {
       push = record {
@@ -187,7 +206,7 @@ on_split n place next b old new (Ok (Long f own)) h over is =
       seen = (is.1 found.0 found.1).0;
       are = refl;
     }
-on_split n place next b old new (Ok (Short parts)) h over is =
+split_over n place next b old new (Short parts) h over is =
     let found = some_edge n place h.low in
     record {
       edge = found.0;
@@ -197,9 +216,8 @@ on_split n place next b old new (Ok (Short parts)) h over is =
       into = split old new parts.node parts.half parts.made.items refl h.got over (is found.0 found.1);
     }
 
-pub are_fitted : (n : Node) (place next : ℕ) (b : Batch) (old new shown : List Entry) (parts : Parts) → IsLeafBatch n place b old new → shown ≡ new → entries_size shown ≤ leaf_limit → ((e : Edge) → IsEdgeAt n place e → IsRelieved n place e b.count parts.node)
-    → parts.half ≡ Leaf new → parts.made.items ≡ [] → ArePushed n place (Leaf old) next parts
-are_fitted n place next b old new shown parts h same fits above half_is made_is =
+pub leaf_descent : (n : Node) (place : ℕ) (b : Batch) (old new shown : List Entry) → IsLeafBatch n place b old new → ((e : Edge) → IsEdgeAt n place e → IsWaitedFor n place e) → shown ≡ new → entries_size shown ≤ leaf_limit → IsDescent n place (Leaf old) b.count (Entries new)
+leaf_descent n place b old new shown h waiting same fits =
     let found = some_edge n place h.low in
     let leaf : IsLeaf new = record { each = h.got.entries.each; rising = h.got.entries.rising; size = omega (arith, fits, ap entries_size same) } in
     record {
@@ -207,9 +225,9 @@ are_fitted n place next b old new shown parts h same fits above half_is made_is 
       here = found.1;
       batch = b;
       moved = h.batch found.0 found.1;
-      into = subst (λ (d : Node). IsPushInto n place found.0 (Leaf old) b next parts.node d parts.made.items) (sym half_is)
-          (subst (λ (l : List Node). IsPushInto n place found.0 (Leaf old) b next parts.node (Leaf new) l) (sym made_is)
-          (fitted old new parts.node refl h.got leaf (above found.0 found.1)));
+      count_is = refl;
+      plain = each_taken (IsPlainFor found.0 (end_at n place)) b.count (unseen n found.0) (waiting found.0 found.1).plain;
+      gained = (old, refl, h.got, leaf);
     }
 
 -- ---- halves whose pivot would be too long

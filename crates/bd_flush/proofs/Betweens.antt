@@ -24,7 +24,7 @@ use Rattle.bd_node.proofs.Sound.{sound-levelled, named_lower, root_unnamed}
 use Rattle.bd_node.proofs.Stepping.{given-old, by_given, changed_at-same, changed_at-none}
 use Rattle.bd_inner.specs.declared.halves.Halves.{Halves}
 use Rattle.bd_inner.specs.Halves.{IsHalf}
-use Rattle.bd_node.specs.Pushes.{exchanged}
+use Rattle.bd_node.specs.Pushes.{exchanged, seen_by, IsRelieved}
 use Rattle.bd_inner.proofs.Compacting.{compacted_shape, compacted_level, compacted_meaning}
 use Rattle.bd_inner.proofs.Exchanged.{exchanged_shape}
 use Rattle.bd_path.specs.declared.fetching.Fetched.{Fetched}
@@ -38,7 +38,6 @@ use Rattle.bd_path.specs.Raising.{raised, raise, IsWayUp, IsRising, IsRaisedOver
 use Rattle.bd_path.specs.Raising.IsRising.{at_top, high_enough, rises}
 use Rattle.bd_path.specs.Raising.IsRaisedOver.{is_above, rises_too}
 use Rattle.bd_flush.specs.Pushing.{CanPush, IsLongPush}
-use Rattle.bd_node.specs.Pushes.{seen_by, IsRelieved}
 use Rattle.bd_flush.proofs.RootSplits.{both, over_shape, two_have, times_made}
 use Rattle.bd_flush.proofs.ChildSplits.{one_fits, one_times, lower_child, other_names, at_child, IsSplittable, IsSplittableOf}
 use Rattle.bd_path.proofs.EdgesAt.{as_edge, child_named, some_next}

@@ -1,7 +1,7 @@
 -- Messages that may go down an edge.
-use Rattle.std.proofs.Common.{◌≡◌, ◌↔◌, ℕ, ◌<◌, Bool, true, false, not, List, [], ◌∷◌, refl, sym, ap, subst, ◌∙◌, Option, None, Some, IsTrue, arith, inl, inr}
+use Rattle.std.proofs.Common.{◌≡◌, ◌↔◌, ℕ, ◌<◌, Bool, true, false, not, cond, List, [], ◌∷◌, ◌++◌, refl, sym, ap, subst, ◌∙◌, Option, None, Some, IsTrue, arith, inl, inr}
 use Rattle.std.specs.List.{AllByRecursion, flat_map}
-use Rattle.std.specs.Option.{option_to_list}
+use Rattle.std.specs.Option.{option_map, option_to_list}
 use Rattle.std.specs.Prelude.{IfSome}
 use Rattle.std.proofs.lemmas.Bool.{cases_Bool}
 use Rattle.std.proofs.lemmas.List.Concat.{flat_map-append}
@@ -10,15 +10,16 @@ use Rattle.bd_keys.proofs.Order.{not_below_itself, below_from}
 use Rattle.bd_message.specs.declared.message.Message.{Message}
 use Rattle.bd_message.specs.declared.message.Message.TheVariants.{Put, Del, Patch, Cut, Goto}
 use Rattle.bd_message.specs.Effect.{begins, rest}
-use Rattle.bd_message.specs.Freeing.{freed}
+use Rattle.bd_message.specs.Freeing.{stripped, narrowed, freed}
+use Rattle.bd_message.specs.Messages.{IsPlain}
 use Rattle.bd_message.proofs.Finds.{begins-is, not_both}
 use Rattle.bd_message.proofs.Prefixes.{joined_other, begins_itself}
 use Rattle.bd_node.specs.declared.node.Edge.{Edge}
 use Rattle.bd_node.specs.declared.node.Node.{Node}
 use Rattle.bd_node.specs.Nodes.{message_names}
 use Rattle.bd_node.specs.Shape.{IsShape}
-use Rattle.bd_node.proofs.Lookup.{each_weaker, each_both}
-use Rattle.bd_inner.specs.Batches.{lifted, IsLifted, CanMove, AreParts}
+use Rattle.bd_node.proofs.Lookup.{each_weaker, each_first, each_second, each_both}
+use Rattle.bd_inner.specs.Batches.{lifted, IsLifted, CanMove, IsPart, AreParts}
 use Rattle.bd_node.specs.Pushes.{IsPlainFor}
 use Rattle.bd_node.specs.Parts.{end_at, IsEdgeAt}
 use Rattle.bd_inner.proofs.CarvingOwned.{front_begins, least_begins}
@@ -135,3 +136,27 @@ parts_low level top e hi (m ∷ list) moved down parts =
     subst (λ (l : List Message). AllByRecursion P (flat_map message_names l)) (sym parts.4)
     (subst (λ (l : List ℕ). AllByRecursion P l) (sym (flat_map-append message_names parts.0 parts.1))
     (each_both P (flat_map message_names parts.0) (flat_map message_names parts.1) own later))
+
+-- ---- what names no node once it has gone down, named none before
+
+freed_goto : (s prefix source : List ℕ) (child : ℕ) → begins prefix s ≡ true → freed s (Goto prefix source child) ≡ Some (Goto (rest s prefix) source child)
+freed_goto s prefix source child h = ap (λ (b : Bool). option_map (stripped s) (cond b (Some (Goto prefix source child)) (narrowed s (Goto prefix source child)))) h
+
+plain_part : (e : Edge) (hi : Option (List ℕ)) (m : Message) (part : List Message) → CanMove e hi m → IsPart e hi m part → AllByRecursion IsPlain part → IsPlainFor e hi m
+plain_part e hi (Put key value) part move is plain = λ k range touch. tt
+plain_part e hi (Del key) part move is plain = λ k range touch. tt
+plain_part e hi (Patch key off bytes) part move is plain = λ k range touch. tt
+plain_part e hi (Cut prefix from) part move is plain = λ k range touch. tt
+plain_part e hi (Goto prefix source child) part move is plain = λ k range touch.
+    elim is [
+      | inl can ↦
+          (let own : part ≡ Goto (rest (lifted e) prefix) source child ∷ [] = can.1 ∙ ap option_to_list (freed_goto (lifted e) prefix source child (move k range touch)) in
+          (subst (λ (l : List Message). AllByRecursion IsPlain l) own plain).0)
+      | inr none ↦ absurd (none.0 (k, range, touch))
+    ]
+
+pub parts_plain : (e : Edge) (hi : Option (List ℕ)) (list moved : List Message) → AllByRecursion (CanMove e hi) list → AreParts e hi list moved → AllByRecursion IsPlain moved → AllByRecursion (IsPlainFor e hi) list
+parts_plain e hi [] moved move parts plain = tt
+parts_plain e hi (m ∷ list) moved move parts plain =
+    let both : AllByRecursion IsPlain (parts.0 ++ parts.1) = subst (λ (l : List Message). AllByRecursion IsPlain l) parts.4 plain in
+    (plain_part e hi m parts.0 move.0 parts.2 (each_first IsPlain parts.0 parts.1 both), parts_plain e hi list parts.1 move.1 parts.3 (each_second IsPlain parts.0 parts.1 both))

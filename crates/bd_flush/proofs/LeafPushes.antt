@@ -22,12 +22,11 @@ use Rattle.bd_inner.specs.declared.batches.Batch.{Batch}
 use Rattle.bd_node.specs.Parts.{buffer_of, end_at, IsEdgeAt}
 use Rattle.bd_inner.specs.Batches.{IsMoved}
 use Rattle.bd_inner.specs.Exchanging.{FitsAt}
-use Rattle.bd_node.specs.Pushes.{exchanged}
+use Rattle.bd_node.specs.Pushes.{exchanged, seen_by}
 use Rattle.bd_inner.proofs.Compacting.{count_names, compacted_shape, compacted_level, compacted_meaning, compacted_size, compacted_times}
 use Rattle.bd_inner.proofs.Fitting.{own_shape, way_fits}
 use Rattle.bd_inner.proofs.Exchanged.{exchanged_shape, pushed}
 use Rattle.bd_flush.specs.Pushing.{unseen, IsWaitedFor, IsEdgeBatch, IsWay, IsNewLeaf}
-use Rattle.bd_node.specs.Pushes.{seen_by}
 use Rattle.bd_inner.proofs.Named.{times_without, times_exchanged, count_own, level_exchanged, compacted_named, exchanged_named, size_exchanged}
 use Rattle.bd_node.proofs.Parts.{inner_of}
 use Rattle.bd_path.proofs.EdgesAt.{some_next}

@@ -8,6 +8,7 @@ pub mod PushCommits
 pub mod Betweens
 pub mod Batches
 pub mod PushPlans
+pub mod PushDowns
 pub mod LeafHalves
 pub mod LeafPushes
 pub mod LeafCommits

@@ -16,12 +16,11 @@ use Rattle.bd_node.specs.Parts.{edges_of, buffer_of, end_at, IsEdgeAt}
 use Rattle.bd_inner.specs.Batches.{IsLifted}
 use Rattle.bd_node.specs.Compaction.{IsCompacted}
 use Rattle.bd_inner.specs.Exchanging.{FitsAt, way_to}
-use Rattle.bd_node.specs.Pushes.{exchanged}
+use Rattle.bd_node.specs.Pushes.{exchanged, seen_by}
 use Rattle.bd_inner.proofs.Fitting.{own_shape, way_lifted}
 use Rattle.bd_leaf.specs.Leaves.{IsReceived}
 use Rattle.bd_path.specs.declared.fetching.Fetched.{Fetched}
 use Rattle.bd_flush.specs.Pushing.{IsWaitedFor, IsEdgeBatch, IsWay, IsNewLeaf, IsNewStep}
-use Rattle.bd_node.specs.Pushes.{seen_by}
 use Rattle.bd_path.specs.Paths.{leaf_step}
 use Rattle.bd_flush.proofs.Pushed.{batch_plain}
 use Rattle.bd_node.proofs.Parts.{some_edge}

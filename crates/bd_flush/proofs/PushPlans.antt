@@ -14,13 +14,15 @@ use Rattle.bd_node.specs.Steps.{IsStep, IsInPlace, IsTableAfter, IsCommitted}
 use Rattle.bd_node.specs.Stores.{visited}
 use Rattle.bd_node.specs.Parts.{IsEdgeAt}
 use Rattle.bd_path.specs.declared.fetching.Fetched.{Fetched}
+use Rattle.bd_flush.specs.declared.pushing.Work.{Work}
+use Rattle.bd_flush.specs.declared.pushing.Work.TheVariants.{Planned}
 use Rattle.bd_flush.specs.declared.splitting.Plan.{Plan}
 use Rattle.bd_flush.specs.declared.splitting.Plan.TheVariants.{Ready, NoId, NoLevel}
 use Rattle.bd_path.specs.Flushed.{IsFlushed, IsNoHigher, IsHardlyHigher}
 use Rattle.bd_flush.specs.Children.{AreFamily}
 use Rattle.bd_path.specs.Fetching.{IsContents}
 use Rattle.bd_path.specs.Raising.{IsWayUp, CannotRise, AreChangesOver, CannotRiseOver}
-use Rattle.bd_flush.specs.Pushing.{AllGoDown, CanMoveSome, IsWaitedFor, CanPush, IsSomePush, AreLongParts, IsStepOver, IsPlanOver, IsPushBetweenStep, IsPlan, IsLongPush, IsHighPush}
+use Rattle.bd_flush.specs.Pushing.{AllGoDown, CanMoveSome, IsWaitedFor, CanPush, IsSomePush, AreLongParts, IsStepOver, IsPlanOver, IsPushBetweenStep, IsPlan, IsWork, IsLongPush, IsHighPush}
 use Rattle.bd_path.specs.Made.{IsWornFor}
 use Rattle.bd_path.proofs.Made.{no_ids, too_high}
 use Rattle.bd_node.specs.declared.node.Change.{Change}
@@ -45,14 +47,17 @@ pub record IsPlanned (t : Table) (way : List Fetched) (parent : Fetched) (place 
   pub way_up : IsWayUp t parent.id way
   pub push : IsPlan t.root t.next way parent place child (Ready step)
 
-pub is_planned : (t : Table) (way : List Fetched) (parent : Fetched) (place : ℕ) (child : Fetched) (step : Step) (plan : Plan) (root next : ℕ) → IsTable t → CanPush t parent place child → IsWayUp t parent.id way → root ≡ t.root → next ≡ t.next → next < 2 ^ 64 → plan ≡ Ready step → IsPlan root next way parent place child plan
-    → IsPlanned t way parent place child step
-is_planned t way parent place child step plan root next table can up same_root same_next room ready push = record {
+the_plan : (root next : ℕ) (way : List Fetched) (parent : Fetched) (place : ℕ) (child : Fetched) (work : Work) (plan : Plan) → work ≡ Planned plan → IsWork root next way parent place child work → IsPlan root next way parent place child plan
+the_plan root next way parent place child work plan is h = subst (λ (w : Work). IsWork root next way parent place child w) is h
+
+pub is_planned : (t : Table) (way : List Fetched) (parent : Fetched) (place : ℕ) (child : Fetched) (step : Step) (work : Work) (plan : Plan) (root next : ℕ) → IsTable t → CanPush t parent place child → IsWayUp t parent.id way → root ≡ t.root → next ≡ t.next → next < 2 ^ 64 → work ≡ Planned plan → plan ≡ Ready step
+    → IsWork root next way parent place child work → IsPlanned t way parent place child step
+is_planned t way parent place child step work plan root next table can up same_root same_next room planned ready push = record {
   table = table;
   next = omega arith;
   can = can;
   way_up = up;
-  push = subst (λ (i : ℕ). IsPlan t.root i way parent place child (Ready step)) same_next (subst (λ (r : ℕ). IsPlan r next way parent place child (Ready step)) same_root (subst (λ (p : Plan). IsPlan root next way parent place child p) ready push));
+  push = subst (λ (i : ℕ). IsPlan t.root i way parent place child (Ready step)) same_next (subst (λ (r : ℕ). IsPlan r next way parent place child (Ready step)) same_root (subst (λ (p : Plan). IsPlan root next way parent place child p) ready (the_plan root next way parent place child work plan planned push)));
 }
 
 -- what waits can be moved, and names no node where the child is a leaf
@@ -133,20 +138,20 @@ on_planned_visits t way parent place child step before now (Ok x) h is same = le
 on_planned_visits t way parent place child step before now (Err e) h is same = omega arith
 
 -- a node can't rise
-pub no_level_cause : {T : Type 0} (count : ℕ) (bad : ℕ → Type 0) (IsOne : Step → Type 0) (t : Table) (way : List Fetched) (parent : Fetched) (place : ℕ) (child : Fetched) (plan : Plan) (root next : ℕ) → plan ≡ NoLevel → IsPlan root next way parent place child plan
+pub no_level_cause : {T : Type 0} (count : ℕ) (bad : ℕ → Type 0) (IsOne : Step → Type 0) (t : Table) (way : List Fetched) (parent : Fetched) (place : ℕ) (child : Fetched) (work : Work) (plan : Plan) (root next : ℕ) → work ≡ Planned plan → plan ≡ NoLevel → IsWork root next way parent place child work
     → HasMapCause {T = T} count count bad (IsWornFor IsOne (IsHighPush parent.node.value place child.node.value way) t) (Err (Worn Level))
-no_level_cause count bad IsOne t way parent place child plan root next is h =
-    too_high count bad IsOne (IsHighPush parent.node.value place child.node.value way) t (subst (λ (p : Plan). IsPlan root next way parent place child p) is h)
+no_level_cause count bad IsOne t way parent place child work plan root next planned is h =
+    too_high count bad IsOne (IsHighPush parent.node.value place child.node.value way) t (subst (λ (p : Plan). IsPlan root next way parent place child p) is (the_plan root next way parent place child work plan planned h))
 
 -- the step of the store
 pub some_push : (t : Table) (way : List Fetched) (parent : Fetched) (place : ℕ) (child : Fetched) (step : Step) → IsPlanned t way parent place child step → IsSomePush t.root t.next way parent place child step
 some_push t way parent place child step h = elim h.push [ inl own ↦ inl own | inr b ↦ inr b.0 ]
 
 -- the step for which there are no ids
-pub no_id_cause : {T : Type 0} (count : ℕ) (bad : ℕ → Type 0) (high : Type 0) (t : Table) (way : List Fetched) (parent : Fetched) (place : ℕ) (child : Fetched) (plan : Plan) (root next : ℕ) → root ≡ t.root → next ≡ t.next → plan ≡ NoId → IsPlan root next way parent place child plan
+pub no_id_cause : {T : Type 0} (count : ℕ) (bad : ℕ → Type 0) (high : Type 0) (t : Table) (way : List Fetched) (parent : Fetched) (place : ℕ) (child : Fetched) (work : Work) (plan : Plan) (root next : ℕ) → root ≡ t.root → next ≡ t.next → work ≡ Planned plan → plan ≡ NoId → IsWork root next way parent place child work
     → HasMapCause {T = T} count count bad (IsWornFor (IsSomePush t.root t.next way parent place child) high t) (Err (Worn NextId))
-no_id_cause count bad high t way parent place child plan root next same_root same_next is h =
-    let none : IsPlan t.root t.next way parent place child NoId = subst (λ (i : ℕ). IsPlan t.root i way parent place child NoId) same_next (subst (λ (r : ℕ). IsPlan r next way parent place child NoId) same_root (subst (λ (p : Plan). IsPlan root next way parent place child p) is h)) in
+no_id_cause count bad high t way parent place child work plan root next same_root same_next planned is h =
+    let none : IsPlan t.root t.next way parent place child NoId = subst (λ (i : ℕ). IsPlan t.root i way parent place child NoId) same_next (subst (λ (r : ℕ). IsPlan r next way parent place child NoId) same_root (subst (λ (p : Plan). IsPlan root next way parent place child p) is (the_plan root next way parent place child work plan planned h))) in
     let made : length none.0.made ≡ 2 = ap (λ (q : Step). length q.made) none.1.over.is in
     let full : 2 ^ 64 ≤ t.next + 1 = none.2 in
     no_ids count bad (IsSomePush t.root t.next way parent place child) high t none.0 (inr none.1) (omega arith)

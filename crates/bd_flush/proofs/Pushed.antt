@@ -21,9 +21,7 @@ use Rattle.bd_node.proofs.Appending.{shape_appended, level_appended, acts-plain,
 use Rattle.bd_inner.specs.declared.batches.Batch.{Batch}
 use Rattle.bd_node.specs.Parts.{buffer_of, end_at, IsEdgeAt}
 use Rattle.bd_inner.specs.Batches.{goto_count, IsMoved}
-use Rattle.bd_node.specs.Pushes.{IsPlainFor}
 use Rattle.bd_inner.specs.Exchanging.{IsKeyOf}
-use Rattle.bd_node.specs.Pushes.{exchanged}
 use Rattle.bd_inner.proofs.Compacting.{count_names, count_names-append, compacted_meaning}
 use Rattle.bd_inner.proofs.Fitting.{own_shape}
 use Rattle.bd_inner.proofs.Exchanged.{exchanged_shape, pushed}
@@ -31,7 +29,7 @@ use Rattle.bd_leaf.specs.Leaves.{IsReceived}
 use Rattle.bd_flush.specs.Children.{IsSplitInto}
 use Rattle.bd_flush.specs.GoingDown.{GoesDown}
 use Rattle.bd_flush.specs.Pushing.{unseen, AllGoDown, IsWaitedFor, IsEdgeBatch, IsPushInto}
-use Rattle.bd_node.specs.Pushes.{seen_by, IsRelieved}
+use Rattle.bd_node.specs.Pushes.{exchanged, seen_by, IsPlainFor, IsRelieved}
 use Rattle.bd_flush.specs.Pushing.IsPushInto.{received, fitted, split}
 use Rattle.bd_flush.proofs.GoingDown.{parts_low}
 use Rattle.bd_path.proofs.ChildSteps.{has_below, has_child, has_old, IsChildChange, IsChildChangeOf}
@@ -72,7 +70,7 @@ pub acts_alike : (f g : NodesAt) (list : List Message) (k : List ℕ) (old : Opt
 acts_alike f g list k old plain = acts-plain f list k old plain ∙ sym (acts-plain g list k old plain)
 
 -- the first so many have what all have
-each_taken : (P : Message → Type 0) (count : ℕ) (list : List Message) → AllByRecursion P list → AllByRecursion P (take count list)
+pub each_taken : (P : Message → Type 0) (count : ℕ) (list : List Message) → AllByRecursion P list → AllByRecursion P (take count list)
 each_taken P zero list h = tt
 each_taken P (suc count) [] h = tt
 each_taken P (suc count) (m ∷ list) h = (h.0, each_taken P count list h.1)

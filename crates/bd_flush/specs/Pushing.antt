@@ -4,37 +4,43 @@ use Rattle.std.specs.List.{AllByRecursion}
 use Rattle.bd_limits.specs.Limits.{soft_limit, leaf_limit, room_edges}
 use Rattle.bd_keys.specs.Keys.{IsLift}
 use Rattle.bd_message.specs.declared.message.Message.{Message}
+use Rattle.bd_message.specs.Messages.{IsPlain}
+use Rattle.bd_node.specs.declared.node.Change.{Change}
 use Rattle.bd_node.specs.declared.node.Edge.{Edge}
 use Rattle.bd_node.specs.declared.node.Entry.{Entry}
 use Rattle.bd_node.specs.declared.node.Node.{Node}
 use Rattle.bd_node.specs.declared.node.Node.TheVariants.{Leaf}
 use Rattle.bd_node.specs.declared.node.Step.{Step}
+use Rattle.bd_node.specs.declared.push.Gain.{Gain}
+use Rattle.bd_node.specs.declared.push.Gain.TheVariants.{Messages, Entries}
+use Rattle.bd_node.specs.declared.push.Push.{Push}
 use Rattle.bd_node.specs.Nodes.{level_of, buffer_size, appended}
 use Rattle.bd_node.specs.Shape.{IsLeaf}
 use Rattle.bd_node.specs.Tables.{Table}
-use Rattle.bd_inner.specs.declared.batches.Batch.{Batch}
-use Rattle.bd_node.specs.Compaction.{IsCompacted}
 use Rattle.bd_node.specs.Parts.{edges_of, buffer_of, end_at, IsEdgeAt}
+use Rattle.bd_node.specs.Pushes.{seen_by, IsRelieved, IsPlainFor}
+use Rattle.bd_inner.specs.declared.batches.Batch.{Batch}
 use Rattle.bd_inner.specs.declared.halves.Halves.{Halves}
 use Rattle.bd_inner.specs.Halves.{AreHalves}
 use Rattle.bd_inner.specs.Batches.{CanMove, SomeCanTouch, IsBatch}
-use Rattle.bd_node.specs.Pushes.{IsPlainFor}
 use Rattle.bd_inner.specs.Exchanging.{way_to}
-use Rattle.bd_node.specs.Pushes.{exchanged}
 use Rattle.bd_leaf.specs.Leaves.{entries_size, IsReceived}
 use Rattle.bd_path.specs.declared.fetching.Fetched.{Fetched}
-use Rattle.bd_flush.specs.declared.children.Parts.{Parts}
-use Rattle.bd_node.specs.declared.node.Change.{Change}
-use Rattle.bd_flush.specs.declared.splitting.Plan.{Plan}
-use Rattle.bd_flush.specs.declared.splitting.Plan.TheVariants.{Ready, NoId, NoLevel}
+use Rattle.bd_path.specs.Fetching.{IsFetched, IsWayTo}
+use Rattle.bd_path.specs.Paths.{child_step, leaf_step}
+use Rattle.bd_path.specs.Raising.{raise, IsRaisedOver, CannotRiseOver}
 use Rattle.bd_flush.specs.declared.children.Halving.{Halving}
 use Rattle.bd_flush.specs.declared.children.Halving.TheVariants.{Short, Long}
-use Rattle.bd_path.specs.Fetching.{IsFetched, IsWayTo}
+use Rattle.bd_flush.specs.declared.children.Parts.{Parts}
+use Rattle.bd_flush.specs.declared.pushing.Below.{Below}
+use Rattle.bd_flush.specs.declared.pushing.Below.TheVariants.{Moved, Made}
+use Rattle.bd_flush.specs.declared.pushing.Work.{Work}
+use Rattle.bd_flush.specs.declared.pushing.Work.TheVariants.{Down, Planned}
+use Rattle.bd_flush.specs.declared.splitting.Plan.{Plan}
+use Rattle.bd_flush.specs.declared.splitting.Plan.TheVariants.{Ready, NoId, NoLevel}
 use Rattle.bd_flush.specs.Children.{IsSplitInto, IsLongIn}
-use Rattle.bd_path.specs.Paths.{child_step, leaf_step}
 use Rattle.bd_flush.specs.GoingDown.{GoesDown}
 use Rattle.bd_flush.specs.Splitting.{over_step, IsPlanOf}
-use Rattle.bd_path.specs.Raising.{raise, IsRaisedOver, CannotRiseOver}
 
 -- the messages that a node's edge hasn't seen
 abbrev pub unseen : Node → Edge → List Message
@@ -141,6 +147,30 @@ abbrev pub IsPushedOver : Node → ℕ → Node → ℕ → Halving → Type 0
 IsPushedOver n place m next (Short parts) = ArePushed n place m next parts
 IsPushedOver n place m next (Long edge halves) = AreLongParts n place m edge halves
 
+-- what a child has of messages that have gone down to it: an inner one the messages, none of which names
+-- a node, and a leaf its entries then, which fit
+abbrev pub IsGained : Node → List Message → Gain → Type 0
+IsGained m list (Messages own) =
+    (own ≡ list) × (1 ≤ level_of m) × AllByRecursion IsPlain list
+IsGained m list (Entries new) =
+    (old : List Entry) × (m ≡ Leaf old) × IsReceived old list new × IsLeaf new
+
+-- what goes down from a node `n` to its child `m` in place: so many messages, and what the child has of
+-- them; those of the edge's keys name no node
+pub record IsDescent (n : Node) (place : ℕ) (m : Node) (count : ℕ) (gain : Gain) : Type 0 where
+  pub edge : Edge
+  pub here : IsEdgeAt n place edge
+  pub batch : Batch
+  pub moved : IsEdgeBatch n place edge batch
+  pub count_is : count ≡ batch.count
+  pub plain : AllByRecursion (IsPlainFor edge (end_at n place)) (take batch.count (unseen n edge))
+  pub gained : IsGained m batch.messages gain
+
+-- what goes down in place, or what is made of a node and its child
+abbrev pub IsBelow : Node → ℕ → Node → ℕ → Below → Type 0
+IsBelow n place m next (Moved count gain) = IsDescent n place m count gain
+IsBelow n place m next (Made halving) = IsPushedOver n place m next halving
+
 -- the step of a push
 pub record IsPushStep (root next : ℕ) (parent : Fetched) (place : ℕ) (child : Fetched)
     (step : Step) : Type 0 where
@@ -200,6 +230,24 @@ IsPlan root next way parent place child NoId =
     (step : Step) × IsPushBetweenStep root next way parent place child step × (2 ^ 64 ≤ next + 1)
 IsPlan root next way parent place child NoLevel =
     IsHighPush parent.node.value place child.node.value way
+
+-- what goes down in place from a fetched node to its child
+pub record IsPushOf (parent : Fetched) (place : ℕ) (child : Fetched) (push : Push) : Type 0 where
+  pub count : ℕ
+  pub gain : Gain
+  pub is : push ≡ record {
+    parent = parent.id;
+    place = place;
+    count = count;
+    child = child.id;
+    gain = gain;
+  }
+  pub descent : IsDescent parent.node.value place child.node.value count gain
+
+-- what goes down in place, or the step of a push, or why there is none
+abbrev pub IsWork : ℕ → ℕ → List Fetched → Fetched → ℕ → Fetched → Work → Type 0
+IsWork root next way parent place child (Down push) = IsPushOf parent place child push
+IsWork root next way parent place child (Planned plan) = IsPlan root next way parent place child plan
 
 -- ---- to a new leaf
 

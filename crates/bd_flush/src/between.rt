@@ -20,7 +20,7 @@ ghost use Rattle.bd_flush.specs.Between.{IsBetweenStep};
 use crate::splitting::{Plan, over_step};
 use bd_inner::Halves;
 use bd_message::{Counter, MapFault};
-use bd_node::{Node, NodeStore};
+use bd_node::NodeStore;
 use bd_path::{Fetched, raise_way};
 use std::alloc::{AllocError, Global};
 

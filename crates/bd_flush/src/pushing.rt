@@ -1,8 +1,9 @@
 //! Messages go down from a node to its child.
 
-ghost use Rattle.std.specs.Prelude.{◌≡◌, ◌+◌, ◌^◌, ◌<◌, ◌≤◌, ◌⊎◌, length, reverse, IfOk, OnOk, OnErr};
-ghost use Rattle.std.specs.List.{AllByRecursion};
+ghost use Rattle.std.specs.Prelude.{◌≡◌, ◌↔◌, ◌+◌, ◌^◌, ◌<◌, ◌≤◌, ◌⊎◌, length, reverse, IfOk, IsTrue, OnOk, OnErr};
+ghost use Rattle.std.specs.List.{All, AllByRecursion};
 ghost use Rattle.bd_limits.specs.Limits.{soft_limit, leaf_limit, batch_limit, room_edges};
+ghost use Rattle.bd_message.specs.Messages.{IsPlain};
 ghost use Rattle.bd_message.specs.KeyMaps.{HasMapCause};
 ghost use Rattle.bd_node.specs.Frames.{OfSound, OnlyReads, Stays};
 ghost use Rattle.bd_node.specs.declared.node.Edge.{Edge};
@@ -19,7 +20,7 @@ ghost use Rattle.bd_path.specs.Made.{IsMadeBy, IsWornFor};
 ghost use Rattle.bd_flush.specs.Children.{AreFamily};
 ghost use Rattle.bd_path.specs.Fetching.{IsContents};
 ghost use Rattle.bd_path.specs.Raising.{IsWayUp};
-ghost use Rattle.bd_flush.specs.Pushing.{IsWaitedFor, CanMoveSome, CanPush, IsEdgeBatch, IsPartedOver, IsPushedOver, ArePushed, IsPlanOver, IsPlan, IsSomePush, IsLongPush, IsHighPush};
+ghost use Rattle.bd_flush.specs.Pushing.{IsWaitedFor, CanMoveSome, CanPush, IsEdgeBatch, IsPartedOver, IsPushedOver, IsBelow, IsPlanOver, IsPlan, IsWork, IsSomePush, IsLongPush, IsHighPush};
 ghost use Rattle.bd_node.specs.Pushes.{seen_by, IsRelieved};
 
 use crate::children::{Halving, Parts, child_step, over_halves, with_edge};
@@ -27,7 +28,7 @@ use crate::splitting::{Plan, over_step};
 use bd_inner::{Batch, Halves, next_batch, receive};
 use bd_leaf as leaf;
 use bd_message::{Counter, MapFault, Message};
-use bd_node::{Change, Edge, Entries, Entry, Node, NodeStore, Step, end_of};
+use bd_node::{Change, Edge, Entries, Entry, Gain, Node, NodeStore, Push, end_of};
 use bd_path::{Fetched, changes_over};
 use std::alloc::{AllocError, Global};
 
@@ -41,18 +42,19 @@ use std::alloc::{AllocError, Global};
 /// parent, the leaf becomes a node over both halves, which are made, and each node above that isn't
 /// higher than the one below it then rises by one level. A root of level 1,000 can't rise, which is
 /// `Worn(Level)`.
+/// Where no leaf is split and no Goto goes down, the store changes both nodes in place.
 pub fn push<S: NodeStore>(
     alloc: Global,
     store: &mut S,
     above: &[Fetched],
-    parent: &Fetched,
+    parent: Fetched,
     place: usize,
-    child: &Fetched,
+    child: Fetched,
 ) -> Result<(), MapFault>
-    requires can { CanPush (S.table store.old) parent.now place child.now }
-    requires way { IsWayUp (S.table store.old) parent.now.id (reverse above.now) }
+    requires can { CanPush (S.table store.old) parent place child }
+    requires way { IsWayUp (S.table store.old) parent.id (reverse above.now) }
     requires family { OfSound S.NodeStore store.old
-        (AreFamily (S.nodes store.old) (S.table store.old) parent.now child.now) }
+        (AreFamily (S.nodes store.old) (S.table store.old) parent child) }
     requires contents { OfSound S.NodeStore store.old
         (AllByRecursion (IsContents (S.nodes store.old)) (reverse above.now)) }
     ensures flushed { OfSound S.NodeStore store.old
@@ -60,23 +62,27 @@ pub fn push<S: NodeStore>(
         (S.nodes store.new) (S.table store.new))) }
     ensures made { OfSound S.NodeStore store.old
         (OnOk result (IsMadeBy (IsSomePush (S.table store.old).root (S.table store.old).next
-        (reverse above.now) parent.now place child.now) (S.nodes store.old) (S.table store.old)
+        (reverse above.now) parent place child) (S.nodes store.old) (S.table store.old)
         (S.nodes store.new) (S.table store.new))) }
     ensures table { OnOk result (IsNoHigher (S.table store.old) (S.table store.new)
-        ⊎ (IsLongPush parent.now.node.value place child.now.node.value
+        ⊎ (IsLongPush parent.node.value place child.node.value
         × IsHardlyHigher (S.table store.old) (S.table store.new))) }
     ensures stays { Stays S.NodeStore store.old store.new }
     ensures err { OnErr result (OnlyReads S.NodeStore store.old store.new) }
     ensures few_visits { S.visit_count store.new ≤ S.visit_count store.old + 2 }
     ensures cause { HasMapCause (S.fault_count store.old) (S.fault_count store.new)
         (S.bad store.new) (IsWornFor (IsSomePush (S.table store.old).root
-        (S.table store.old).next (reverse above.now) parent.now place child.now)
-        (IsHighPush parent.now.node.value place child.now.node.value (reverse above.now))
+        (S.table store.old).next (reverse above.now) parent place child)
+        (IsHighPush parent.node.value place child.node.value (reverse above.now))
         (S.table store.old)) result }
 {
     let root = store.root();
     let next = store.next_id();
-    let step = match push_plan(alloc, root, next, above, parent, place, child)? {
+    let plan = match push_work(alloc, root, next, above, parent, place, child)? {
+        Work::Down(push) => return store.push_down(push),
+        Work::Planned(plan) => plan,
+    };
+    let step = match plan {
         Plan::Ready(step) => step,
         Plan::NoId => return Err(MapFault::Worn(Counter::NextId)),
         Plan::NoLevel => return Err(MapFault::Worn(Counter::Level)),
@@ -85,6 +91,55 @@ pub fn push<S: NodeStore>(
 }
 
 // What a push does.
+#[derive(Drop)]
+enum Work {
+    // Messages go down in place.
+    Down(Push),
+    // A step is made, if there is one.
+    Planned(Plan),
+}
+
+// What a push does. The nodes are let go, so that the store can change them in place.
+fn push_work(
+    alloc: Global,
+    root: u64,
+    next: u64,
+    above: &[Fetched],
+    parent: Fetched,
+    place: usize,
+    child: Fetched,
+) -> Result<Work, AllocError>
+    requires shape { IsShape parent.node.value }
+    requires child { IsShape child.node.value }
+    requires above { AllByRecursion (λ (f : Fetched). IsShape f.node.value) (reverse above.now) }
+    requires soft { buffer_size child.node.value ≤ soft_limit }
+    requires room { length (edges_of parent.node.value) ≤ room_edges }
+    requires within { place < length (edges_of parent.node.value) }
+    requires next { 1 ≤ next }
+    requires waiting { (e : Edge) → IsEdgeAt parent.node.value place e
+        → CanMoveSome parent.node.value place e }
+    requires plain { level_of child.node.value ≡ 0 → (e : Edge)
+        → IsEdgeAt parent.node.value place e → IsWaitedFor parent.node.value place e }
+    ensures { IfOk result (IsWork root next (reverse above.now) parent place child) }
+{
+    let node: &Node = &parent.node;
+    let below: &Node = &child.node;
+    match pushed_below(alloc, node, place, below, next)? {
+        Below::Moved { count, gain } => Ok(Work::Down(Push {
+            parent: parent.id,
+            place,
+            count,
+            child: child.id,
+            gain,
+        })),
+        Below::Made(halving) => {
+            let plan = push_plan(alloc, root, next, above, &parent, place, &child, halving)?;
+            Ok(Work::Planned(plan))
+        }
+    }
+}
+
+// The step that makes a node and its child after messages have gone down.
 fn push_plan(
     alloc: Global,
     root: u64,
@@ -93,28 +148,21 @@ fn push_plan(
     parent: &Fetched,
     place: usize,
     child: &Fetched,
+    halving: Halving,
 ) -> Result<Plan, AllocError>
     requires shape { IsShape parent.now.node.value }
-    requires child { IsShape child.now.node.value }
     requires above { AllByRecursion (λ (f : Fetched). IsShape f.node.value) (reverse above.now) }
-    requires soft { buffer_size child.now.node.value ≤ soft_limit }
-    requires room { length (edges_of parent.now.node.value) ≤ room_edges }
     requires within { place < length (edges_of parent.now.node.value) }
-    requires next { 1 ≤ next }
-    requires waiting { (e : Edge) → IsEdgeAt parent.now.node.value place e
-        → CanMoveSome parent.now.node.value place e }
-    requires plain { level_of child.now.node.value ≡ 0 → (e : Edge)
-        → IsEdgeAt parent.now.node.value place e → IsWaitedFor parent.now.node.value place e }
+    requires halving { IsPushedOver parent.now.node.value place child.now.node.value next halving }
     ensures { IfOk result (IsPlan root next (reverse above.now) parent.now place child.now) }
 {
-    let node: &Node = &parent.node;
-    let below: &Node = &child.node;
-    match pushed_below(alloc, node, place, below, next)? {
+    match halving {
         Halving::Short(Parts { node, half, made }) => {
             let step = child_step(alloc, root, parent.id, node, child.id, half, made)?;
             Ok(Plan::Ready(step))
         }
         Halving::Long { edge, halves } => {
+            let node: &Node = &parent.node;
             let node = with_edge(alloc, node, place, edge)?;
             let parent = Change {
                 id: parent.id,
@@ -125,15 +173,22 @@ fn push_plan(
     }
 }
 
-// A node and its child after messages have gone down, or a leaf's halves where their pivot would be
-// too long in the node.
+// A node and its child after messages have gone down; or what the child gets, where the store can
+// change both in place.
+#[derive(Drop)]
+enum Below {
+    Moved { count: usize, gain: Gain },
+    Made(Halving),
+}
+
+// How messages go down from a node to its child.
 fn pushed_below(
     alloc: Global,
     node: &Node,
     place: usize,
     child: &Node,
     next: u64,
-) -> Result<Halving, AllocError>
+) -> Result<Below, AllocError>
     requires shape { IsShape node.now }
     requires child { IsShape child.now }
     requires soft { buffer_size child.now ≤ soft_limit }
@@ -143,11 +198,11 @@ fn pushed_below(
     requires waiting { (e : Edge) → IsEdgeAt node.now place e → CanMoveSome node.now place e }
     requires plain { level_of child.now ≡ 0 → (e : Edge) → IsEdgeAt node.now place e
         → IsWaitedFor node.now place e }
-    ensures { IfOk result (IsPushedOver node.now place child.now next) }
+    ensures { IfOk result (IsBelow node.now place child.now next) }
 {
     match child {
         Node::Leaf(entries) => leaf_received(alloc, node, place, entries.as_slice(), next),
-        Node::Inner { .. } => Ok(Halving::Short(received(alloc, node, place, child, next)?)),
+        Node::Inner { .. } => received(alloc, node, place, child, next),
     }
 }
 
@@ -158,29 +213,29 @@ fn leaf_received(
     place: usize,
     entries: &[Entry],
     next: u64,
-) -> Result<Halving, AllocError>
+) -> Result<Below, AllocError>
     requires shape { IsShape node.now }
     requires leaf { IsLeaf entries.now }
     requires room { length (edges_of node.now) ≤ room_edges }
     requires within { place < length (edges_of node.now) }
     requires next { 1 ≤ next }
     requires waiting { (e : Edge) → IsEdgeAt node.now place e → IsWaitedFor node.now place e }
-    ensures { IfOk result (IsPushedOver node.now place (kind.Leaf entries.now) next) }
+    ensures { IfOk result (IsBelow node.now place (kind.Leaf entries.now) next) }
 {
     let batch = edge_batch(alloc, node, place)?;
     let new = leaf::receive(alloc, entries, batch.messages.as_slice())?;
-    if !leaf::fits(new.as_slice()) {
-        return leaf_parted(alloc, node, place, batch.count, new, next);
+    if leaf::fits(new.as_slice()) {
+        return Ok(Below::Moved {
+            count: batch.count,
+            gain: Gain::Entries(new),
+        });
     }
-    let above = relieved(alloc, node, place, batch.count)?;
-    Ok(Halving::Short(Parts {
-        node: above,
-        half: Node::Leaf(new),
-        made: Vec::new(alloc),
-    }))
+    let halving = leaf_parted(alloc, node, place, batch.count, new, next)?;
+    Ok(Below::Made(halving))
 }
 
-// The same of a leaf whose entries have become too many, after so many messages have gone down.
+// A node over the halves of a leaf whose entries have become too many, after so many messages have
+// gone down; or the halves, where their pivot would be too long in the node.
 fn leaf_parted(
     alloc: Global,
     node: &Node,
@@ -251,23 +306,43 @@ fn received(
     place: usize,
     child: &Node,
     next: u64,
-) -> Result<Parts, AllocError>
+) -> Result<Below, AllocError>
     requires shape { IsShape node.now }
     requires child { IsShape child.now }
     requires inner { 1 ≤ level_of child.now }
     requires soft { buffer_size child.now ≤ soft_limit }
     requires within { place < length (edges_of node.now) }
     requires waiting { (e : Edge) → IsEdgeAt node.now place e → CanMoveSome node.now place e }
-    ensures { IfOk result (λ parts. ArePushed node.now place child.now next parts) }
+    ensures { IfOk result (IsBelow node.now place child.now next) }
 {
     let batch = edge_batch(alloc, node, place)?;
+    if are_plain(batch.messages.as_slice()) {
+        return Ok(Below::Moved {
+            count: batch.count,
+            gain: Gain::Messages(batch.messages),
+        });
+    }
     let above = relieved(alloc, node, place, batch.count)?;
     let half = receive(child, batch.messages)?;
-    Ok(Parts {
+    Ok(Below::Made(Halving::Short(Parts {
         node: above,
         half,
         made: Vec::new(alloc),
-    })
+    })))
+}
+
+// Whether none of the messages names a node.
+fn are_plain(list: &[Message]) -> bool
+    ensures { IsTrue result ↔ All IsPlain list.now }
+{
+    list.iter().all(|message| is_plain(message))
+}
+
+// Whether a message names no node.
+fn is_plain(message: &Message) -> bool
+    ensures { IsTrue result ↔ IsPlain message.now }
+{
+    !matches!(message, Message::Goto { .. })
 }
 
 // The messages that go down a node's edge.

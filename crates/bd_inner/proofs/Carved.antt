@@ -24,8 +24,8 @@ use Rattle.bd_node.specs.Compaction.{IsLoose, IsSwept, lowered}
 use Rattle.bd_node.specs.Parts.{edges_of, buffer_of}
 use Rattle.bd_inner.specs.Carving.{from_key, parted, parted_end, goto_edge, owned, carved, IsGotoAt, IsGotoEdge, IsEnd, IsGotoWay, IsCarved}
 use Rattle.bd_node.proofs.Touched.{touched_first, between, not_above_end}
-use Rattle.bd_inner.proofs.Compacting.{count_names, count_names-append, edge_of-lowered, compacted_shape, compacted_level, compacted_meaning, compacted_size, compacted_times}
-use Rattle.bd_inner.proofs.Splitting.{few_wait, rising}
+use Rattle.bd_node.proofs.Compacting.{few_wait, count_names, count_names-append, edge_of-lowered, compacted_shape, compacted_level, compacted_meaning, compacted_size, compacted_times}
+use Rattle.bd_inner.proofs.Splitting.{rising}
 use Rattle.bd_inner.proofs.CarvingParts.{IsOutside, end_before-parted, each_outside, still_outside, each_parted_edge, parted_few, edge_count, parted_names, HasWay, parted_way}
 use Rattle.bd_inner.proofs.CarvingOwned.{begins_front, front_begins, least_begins, IsOwn, own_is, own_holds, end_before-owned, owned_few, owned_names, IsInsideEnd, inside_end, each_owned, Replaces, owned_related}
 

@@ -18,7 +18,7 @@ use Rattle.bd_node.specs.Shape.{end_before, EachEdge, IsChild, IsEdge}
 use Rattle.bd_node.proofs.Edges.{IsRisingEdge, lt_is, lt_isnt}
 use Rattle.bd_inner.specs.Carving.{is_below_end, from_key, is_own, owned, IsEnd}
 use Rattle.bd_node.proofs.Touched.{touched_first, least_back}
-use Rattle.bd_inner.proofs.Compacting.{count_names}
+use Rattle.bd_node.proofs.Compacting.{count_names}
 use Rattle.bd_inner.proofs.CarvingParts.{below_end_is, below_end_holds, below_end, IsOutside, first_only, edge_count, edge_count-cons}
 
 -- ---- the end of a prefix's keys

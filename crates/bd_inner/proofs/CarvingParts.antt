@@ -16,7 +16,7 @@ use Rattle.bd_node.specs.Shape.{end_before, EachEdge, IsEdge}
 use Rattle.bd_node.proofs.Edges.{IsRisingEdge, lt_is, less_lt}
 use Rattle.bd_inner.specs.Carving.{is_below_end, has_inside, from_key, in_two, parted}
 use Rattle.bd_node.proofs.Touched.{least_back}
-use Rattle.bd_inner.proofs.Compacting.{count_names, count_names-append}
+use Rattle.bd_node.proofs.Compacting.{count_names, count_names-append}
 
 -- ---- the tests
 

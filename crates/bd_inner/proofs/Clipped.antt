@@ -18,7 +18,7 @@ use Rattle.bd_node.specs.Shape.{EachEdge, IsEdge, IsInner}
 use Rattle.bd_node.proofs.Edges.{IsRisingEdge}
 use Rattle.bd_node.specs.Compaction.{IsLoose}
 use Rattle.bd_inner.specs.Clipping.{IsLongEdge, IsLongMessage, IsLong, IsStart, count_before, count_within, source_below, clipped_edge, inside_edge, AreClippedEdges, IsClipped}
-use Rattle.bd_inner.proofs.Compacting.{count_names, count_names-append}
+use Rattle.bd_node.proofs.Compacting.{count_names, count_names-append}
 use Rattle.bd_inner.proofs.Splitting.{rising}
 use Rattle.bd_inner.proofs.FreedMessages.{all_freed, map_drop, acts_unseen, seen_within, freed_fit, freed_longs, freed_later, freed_ones, freed_count}
 use Rattle.bd_inner.proofs.ClippedEdges.{IsFrom, from_facts, least_begun, clipped_child, IsSame, same_edge, long_all, clipped_count, clipped_ones, clipped_few}

@@ -21,7 +21,7 @@ use Rattle.bd_node.specs.Nodes.{edge_names, edge_from, child_at}
 use Rattle.bd_node.specs.Shape.{end_before, EachEdge, IsChild, IsEdge}
 use Rattle.bd_node.proofs.Edges.{IsRisingEdge, lt_is, lt_isnt, not_less_lt, less_lt}
 use Rattle.bd_inner.specs.Clipping.{IsLongEdge, where_child, source_below, seen_after, clipped_edge, inside_edge, IsFreedEdge, count_before, count_within, AreClippedEdges}
-use Rattle.bd_inner.proofs.Compacting.{count_names, count_names-append}
+use Rattle.bd_node.proofs.Compacting.{count_names, count_names-append}
 use Rattle.bd_inner.proofs.FreedMessages.{drop-nil, dropped_at, drop_names}
 
 -- ---- the edge that has the prefix among its keys

@@ -26,7 +26,7 @@ use Rattle.bd_inner.specs.Exchanging.{IsKeyOf, end_within, EachEdgeTo, FitsAt}
 use Rattle.bd_node.specs.Pushes.{exchanged}
 use Rattle.bd_inner.specs.Batches.{IsMoved}
 use Rattle.bd_node.proofs.Parts.{at_of}
-use Rattle.bd_inner.proofs.Compacting.{compacted_shape}
+use Rattle.bd_node.proofs.Compacting.{compacted_shape}
 use Rattle.bd_inner.proofs.Splitting.{first_below, edge_from-back, edge_of-front, EachEdge-front, EachEdge-back, end_before-front, rising, IsParted, parted}
 
 -- ---- the shape

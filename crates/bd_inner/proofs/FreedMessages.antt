@@ -21,7 +21,7 @@ use Rattle.bd_message.proofs.Freed.{if_freed, stripped_message, freed_effect, fr
 use Rattle.bd_node.specs.Nodes.{message_names}
 use Rattle.bd_node.proofs.Appending.{acts-append}
 use Rattle.bd_inner.specs.Clipping.{IsLongMessage, IsFreedMessage, IsStart, seen_after}
-use Rattle.bd_inner.proofs.Compacting.{count_names, count_names-append}
+use Rattle.bd_node.proofs.Compacting.{count_names, count_names-append}
 use Rattle.bd_inner.proofs.Moved.{freed_names, message_small}
 
 -- the messages that there are, freed

@@ -23,7 +23,7 @@ use Rattle.bd_node.proofs.Appending.{acts-append}
 use Rattle.bd_inner.specs.Batches.{goto_count, lifted, IsLifted, CanMove, IsMoved, SomeCanTouch, IsPart, AreParts, IsTooMuch, IsBatch}
 use Rattle.bd_node.specs.Pushes.{IsPlainFor}
 use Rattle.bd_node.specs.Touching.{CanTouch}
-use Rattle.bd_inner.proofs.Compacting.{count_names, count_names-append}
+use Rattle.bd_node.proofs.Compacting.{count_names, count_names-append}
 
 -- ---- the names of a freed message
 

@@ -13,7 +13,7 @@ use Rattle.bd_node.proofs.Parts.{inner_of}
 use Rattle.bd_node.specs.Keeping.{staying}
 use Rattle.bd_node.specs.Compaction.{IsCompacted, lowered}
 use Rattle.bd_node.specs.Pushes.{exchanged}
-use Rattle.bd_inner.proofs.Compacting.{count_names, count_names-append, edge_names-lowered, compacted_size}
+use Rattle.bd_node.proofs.Compacting.{count_names, count_names-append, edge_names-lowered, compacted_size}
 use Rattle.bd_inner.proofs.Exchanged.{at_place}
 
 -- without the edge, and then by the edges in its place

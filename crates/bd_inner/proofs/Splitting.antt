@@ -1,19 +1,16 @@
 -- The halves of a node.
-use Rattle.std.proofs.Common.{◌≡◌, ℕ, zero, suc, ◌+◌, ◌*◌, ◌/◌, ◌<◌, ◌≤◌, Bool, true, false, cond, List, [], ◌∷◌, ◌++◌, length, take, drop, map, refl, sym, ap, subst, ◌∙◌, Option, None, Some, arith, inl, inr, length-append, ◌⊎◌, get_or, length-take, length-drop}
+use Rattle.std.proofs.Common.{◌≡◌, ℕ, zero, suc, ◌+◌, ◌/◌, ◌<◌, ◌≤◌, Bool, true, false, cond, List, [], ◌∷◌, ◌++◌, length, take, drop, map, refl, sym, ap, subst, ◌∙◌, Option, None, Some, arith, inl, inr, length-append, ◌⊎◌, get_or, length-take, length-drop}
 use Rattle.std.specs.Prelude.{slice_get}
-use Rattle.std.specs.List.{flat_map, sum_by}
+use Rattle.std.specs.List.{flat_map}
 use Rattle.std.specs.Ordering.{is_lt}
 use Rattle.std.proofs.lemmas.Bool.{cond-true, cond-false}
 use Rattle.std.proofs.lemmas.Cmp.{nat_list_cmp_total as total}
 use Rattle.std.proofs.lemmas.List.{append-nil, length-map, take-append-drop, drop_more}
-use Rattle.std.proofs.lemmas.List.Sums.{sum_by-cons}
 use Rattle.std.proofs.lemmas.List.Concat.{flat_map-append}
 use Rattle.bd_keys.specs.Keys.{key_cmp, IsBelow, IsBelowEnd, IsAtLeast}
 use Rattle.bd_keys.proofs.Order.{not_below_nil}
-use Rattle.bd_limits.specs.Limits.{key_limit, edge_limit, buffer_limit}
+use Rattle.bd_limits.specs.Limits.{key_limit, edge_limit}
 use Rattle.bd_message.specs.declared.message.Message.{Message}
-use Rattle.bd_message.specs.declared.message.Message.TheVariants.{Put, Del, Patch, Cut, Goto}
-use Rattle.bd_message.specs.Messages.{size}
 use Rattle.bd_node.specs.declared.node.Edge.{Edge}
 use Rattle.bd_node.specs.declared.node.Node.{Node}
 use Rattle.bd_node.specs.declared.node.Node.TheVariants.{Inner}
@@ -24,23 +21,8 @@ use Rattle.bd_node.specs.Keeping.{staying}
 use Rattle.bd_node.specs.Parts.{edges_of}
 use Rattle.bd_node.specs.Compaction.{IsLoose, lowered, IsSwept}
 use Rattle.bd_inner.specs.Halves.{goto_times, bare_edge, IsHalf, AreHalves}
-use Rattle.bd_inner.proofs.Compacting.{count_names, count_names-append, edge_names-lowered, compacted_shape, compacted_level, compacted_meaning, compacted_size, compacted_times}
-
--- ---- how many messages can wait
-
-size_some : (m : Message) → 16 ≤ size m
-size_some (Put key value) = omega arith
-size_some (Del key) = omega arith
-size_some (Patch key off bytes) = omega arith
-size_some (Cut prefix from) = omega arith
-size_some (Goto prefix source child) = omega arith
-
-sizes_some : (ms : List Message) → 16 * length ms ≤ sum_by size ms
-sizes_some [] = omega arith
-sizes_some (m ∷ ms) = let more : 16 * length ms ≤ sum_by size ms = sizes_some ms in let one : 16 ≤ size m = size_some m in omega (arith, sum_by-cons size m ms)
-
-pub few_wait : (level : ℕ) (es : List Edge) (buffer : List Message) → IsInner level es buffer → length buffer ≤ 2048
-few_wait level es buffer h = let some : 16 * length buffer ≤ sum_by size buffer = sizes_some buffer in let high : sum_by size buffer ≤ buffer_limit = h.size in omega arith
+pub use Rattle.bd_node.proofs.Compacting.{few_wait}
+use Rattle.bd_node.proofs.Compacting.{count_names, count_names-append, edge_names-lowered, compacted_shape, compacted_level, compacted_meaning, compacted_size, compacted_times}
 
 -- ---- edges before and after a place
 

@@ -1,11 +1,11 @@
 -- Nodes with other edges in place of one.
 use Rattle.std.specs.Prelude.{◌≡◌, ℕ, ◌+◌, ◌≤◌, List, [], ◌∷◌, ◌++◌, length, take, drop, Option, Some, ⊤}
-use Rattle.bd_limits.specs.Limits.{edge_limit}
+use Rattle.bd_limits.specs.Limits.{key_limit, edge_limit}
 use Rattle.bd_keys.specs.Keys.{InRange}
 use Rattle.bd_node.specs.declared.node.Edge.{Edge}
 use Rattle.bd_node.specs.declared.node.Node.{Node}
 use Rattle.bd_node.specs.declared.node.Node.TheVariants.{Leaf, Inner}
-use Rattle.bd_node.specs.Shape.{end_before, IsEdge}
+use Rattle.bd_node.specs.Shape.{end_before, IsChild, IsEdge}
 use Rattle.bd_node.specs.Parts.{edges_of, buffer_of, end_at, IsEdgeAt}
 
 -- the key is one of the edge at a place

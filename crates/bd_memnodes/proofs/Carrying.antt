@@ -114,7 +114,7 @@ added_one old made xs rest x mid new h one =
           let b : spare old.counts ≤ spare mid.counts + length xs = h.spare_counts in omega arith);
     }
 
-with_made-none : (next : ℕ) (nodes : Nodes) (id : ℕ) → nodes id ≡ with_made next [] nodes id
+pub with_made-none : (next : ℕ) (nodes : Nodes) (id : ℕ) → nodes id ≡ with_made next [] nodes id
 with_made-none next nodes id =
     elim (cases_lt id next) [
       | inl low ↦ sym (cond-true (ltb id next) (nodes id) (nodes id) (lt-ltb id next low))

@@ -9,3 +9,4 @@ pub mod Appended
 pub mod Extended
 pub mod Views
 pub mod Keeping
+pub mod Pushed

@@ -36,7 +36,7 @@ pub some_of_one : (o : Option ℕ) → 1 ≤ unwrap_or o 0 → IsSome o
 some_of_one None one = absurd (omega arith)
 some_of_one (Some n) one = refl
 
-some_of_node : {Z : Type 0} (o : Option (Rc Node Z)) (n : Node) → option_map (λ s. s.value) o ≡ Some n → IsSome o
+pub some_of_node : {Z : Type 0} (o : Option (Rc Node Z)) (n : Node) → option_map (λ s. s.value) o ≡ Some n → IsSome o
 some_of_node None n e = cc
 some_of_node (Some s) n e = refl
 
@@ -50,7 +50,7 @@ names_there old k plan ok added c one =
           added.there c made.0 (omega arith))
     ]
 
-each_mapped : {A B : Type 0} (P : B → Type 0) (f : A → B) (xs : List A) → AllByRecursion P (map f xs) → AllByRecursion (λ x. P (f x)) xs
+pub each_mapped : {A B : Type 0} (P : B → Type 0) (f : A → B) (xs : List A) → AllByRecursion P (map f xs) → AllByRecursion (λ x. P (f x)) xs
 each_mapped P f [] h = tt
 each_mapped P f (x ∷ xs) h = (h.0, each_mapped P f xs h.1)
 

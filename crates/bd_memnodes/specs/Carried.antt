@@ -1,10 +1,13 @@
 -- What the parts of a step leave.
-use Rattle.std.specs.Prelude.{◌≡◌, ℕ, ◌+◌, ◌<◌, ◌≤◌, ◌^◌, List, length, map, nat_eq, IsSome}
+use Rattle.std.specs.Prelude.{◌≡◌, ℕ, ◌+◌, ◌<◌, ◌≤◌, ◌^◌, List, [], length, map, Some, nat_eq, IsSome}
 use Rattle.std.specs.Global.{Global}
 use Rattle.std.specs.HashMap.{hash_map_len, get}
 use Rattle.std.specs.List.{sum_by}
 use Rattle.std.specs.declared.rc.Rc.{Rc}
 use Rattle.bd_node.specs.declared.node.Node.{Node}
+use Rattle.bd_node.specs.declared.push.Push.{Push}
+use Rattle.bd_node.specs.Nodes.{buffer_size}
+use Rattle.bd_node.specs.Pushes.{IsPushStep}
 use Rattle.bd_node.specs.Tables.{times_in}
 use Rattle.bd_node.specs.Steps.{changed_at, given_or}
 use Rattle.bd_memnodes.specs.declared.kept.Kept.{Kept}
@@ -54,6 +57,21 @@ pub record SameKept (old new : Kept) : Type 0 where
   pub counts : (c : ℕ) → count_in new.counts c ≡ count_in old.counts c
   pub dead : new.dead.items ≡ old.dead.items
   pub head : SameHead old new
+
+-- the step that makes a push of what is kept
+pub record IsStepOf (kept : Kept) (push : Push) (step : Step) : Type 0 where
+  pub of_nodes : (n m : Node) → nodes_in kept.nodes push.parent ≡ Some n
+      → nodes_in kept.nodes push.child ≡ Some m → IsPushStep kept.root push n m step
+
+-- other nodes stand in the place of kept ones, and the counts are the same
+pub record IsReplaced (old : Kept) (changes : List Exchange) (new : Kept) : Type 0 where
+  pub nodes : (id : ℕ) → nodes_in new.nodes id
+      ≡ given_or (changed_at (map change_of changes) id) (nodes_in old.nodes id)
+  pub counts : (c : ℕ) → count_in new.counts c ≡ count_in old.counts c
+  pub dead : new.dead.items ≡ []
+  pub root : new.root ≡ old.root
+  pub next : new.next ≡ old.next
+  pub size : (n : Node) → nodes_in new.nodes new.root ≡ Some n → buffer_size n ≡ new.size
 
 -- the plan of a step, for which each counter has room
 pub record IsPlanOf (kept : Kept) (step : Step) (plan : Plan) : Type 0 where

@@ -7,14 +7,14 @@ ghost use Rattle.bd_node.specs.declared.node.Node.{Node};
 ghost use Rattle.bd_node.specs.Nodes.{buffer_size};
 ghost use Rattle.bd_node.specs.Shape.{IsShape};
 ghost use Rattle.bd_node.specs.Tables.{times_in, one_if};
-ghost use Rattle.bd_node.specs.Steps.{AreOnce, after, IsStep, StayAbove, IsTableAfter, IsCommitted};
+ghost use Rattle.bd_node.specs.Steps.{AreOnce, after, changed_at, given_or, IsStep, StayAbove, IsTableAfter, IsCommitted};
 ghost use Rattle.bd_counts.specs.Naming.{times_among, step_names};
 ghost use Rattle.bd_memnodes.specs.Maps.{nodes_in, count_in, times_of};
 ghost use Rattle.bd_counts.specs.Releasing.{IsReleasing};
 ghost use Rattle.bd_memnodes.specs.Releasing.{IsOwing, HasRoom, SameHead};
 ghost use Rattle.bd_memnodes.specs.Plans.{change_of, step_of};
 ghost use Rattle.bd_memnodes.specs.Stored.{table_in, HasMemory, IsWhole};
-ghost use Rattle.bd_memnodes.specs.Carried.{FitCounts, IsAdded, IsAddedTo, IsExchanged};
+ghost use Rattle.bd_memnodes.specs.Carried.{FitCounts, IsAdded, IsAddedTo, IsExchanged, IsReplaced};
 
 use crate::kept::{Kept, count_of, set_count};
 use crate::plan::{Addition, Exchange, Plan};
@@ -106,6 +106,22 @@ impl Kept {
             let Exchange { id, node } = change;
             self.exchange(id, node);
         }
+    }
+
+    /// Puts other nodes in the place of kept ones that name what these named: no count changes.
+    pub fn replace_all(&mut self, changes: Vec<Exchange>)
+        requires there { AllByRecursion (λ change. IsSome (get nat_eq self.old.nodes change.id))
+            changes.items }
+        requires once { AreOnce (map change_of changes.items) }
+        requires room { hash_map_len self.old.nodes + vec_len self.old.dead + length changes.items
+            ≤ vec_capacity self.old.dead }
+        requires shape { (n : Node) → given_or (changed_at (map change_of changes.items)
+            self.old.root) (nodes_in self.old.nodes self.old.root) ≡ Some n → IsShape n }
+        ensures { IsReplaced self.old changes.items self.new }
+    {
+        self.exchange_all(changes);
+        self.dead.clear();
+        self.size = self.root_size();
     }
 
     /// Puts made nodes under the next ids, and counts the names that come with them.

@@ -4,17 +4,18 @@ ghost use Rattle.std.specs.Prelude.{◌≡◌, ℕ, ◌+◌, ◌≤◌, ◌^◌,
 ghost use Rattle.bd_message.specs.KeyMaps.{HasMapCause, NeverWorn};
 ghost use Rattle.bd_node.specs.declared.node.Node.{Node};
 ghost use Rattle.bd_node.specs.Nodes.{appended};
+ghost use Rattle.bd_node.specs.Pushes.{IsPush, CanPush, HasPushed, IsPushed};
 ghost use Rattle.bd_node.specs.Stores.{FitsRoot};
 ghost use Rattle.bd_node.specs.Steps.{IsStep, StayAbove, IsTableAfter, IsCommitted, IsWornBy, IsWornByAdding, IsRootOf, append_step, extend_step, grown};
 ghost use Rattle.std.specs.HashMap.{spare};
 ghost use Rattle.bd_memnodes.specs.Maps.{nodes_in, count_in};
 ghost use Rattle.bd_memnodes.specs.Stored.{table_in, HasMemory, IsWhole};
-ghost use Rattle.bd_memnodes.specs.Carried.{IsPlanOf, IsAdditionOf, SameKept};
+ghost use Rattle.bd_memnodes.specs.Carried.{IsPlanOf, IsAdditionOf, IsStepOf, SameKept};
 
 use crate::kept::Kept;
-use crate::plan::{Addition, Plan, check_counts};
+use crate::plan::{Addition, Plan, check_counts, exchanges};
 use bd_message::{Counter, MapFault, Message};
-use bd_node::{Messages, Node, Nodes, Step};
+use bd_node::{Messages, Node, Nodes, Push, Step};
 use std::alloc::{AllocError, Global};
 use std::collections::HashMap;
 use std::rc::Rc;
@@ -113,6 +114,47 @@ impl Kept {
         match check_counts(alloc, &self.counts, addition.names.as_slice()) {
             Ok(()) => Ok(addition),
             Err(fault) => Err(fault),
+        }
+    }
+
+    /// Lets messages go down from a kept node to its child, or leaves all as it is.
+    pub fn push_down(&mut self, alloc: Global, push: Push) -> Result<(), MapFault>
+        requires whole { IsWhole self.old }
+        requires push { IsPush (table_in self.old) push }
+        requires can { CanPush (nodes_in self.old.nodes) (table_in self.old) push }
+        ensures pushed { (parent child : Node) → nodes_in self.old.nodes push.parent ≡ Some parent
+            → nodes_in self.old.nodes push.child ≡ Some child
+            → OnOk result (IsPushed (nodes_in self.old.nodes) (table_in self.old) push parent child
+            (nodes_in self.new.nodes) (table_in self.new)) }
+        ensures table { OnOk result (HasPushed (table_in self.old) push (table_in self.new)) }
+        ensures whole { IsWhole self.new }
+        ensures err { OnErr result (SameKept self.old self.new) }
+        ensures cause { HasMapCause 0 0 (λ _. ⊥) NeverWorn result }
+    {
+        let step = self.push_step(alloc, push)?;
+        let changes = exchanges(alloc, step.changes)?;
+        self.make_room(0, changes.len())?;
+        self.replace_all(changes);
+        Ok(())
+    }
+
+    // The step that makes a push, of copies of the two nodes.
+    fn push_step(&self, alloc: Global, push: Push) -> Result<Step, AllocError>
+        requires whole { IsWhole self.now }
+        requires push { IsPush (table_in self.now) push }
+        requires can { CanPush (nodes_in self.now.nodes) (table_in self.now) push }
+        ensures { IfOk result (IsStepOf self.now push) }
+    {
+        let Some(parent) = self.nodes.get(&push.parent) else {
+            unreachable!()
+        };
+        let Some(child) = self.nodes.get(&push.child) else {
+            unreachable!()
+        };
+        let made = push.step(alloc, self.root, parent, child)?;
+        match made {
+            Some(step) => Ok(step),
+            None => unreachable!(),
         }
     }
 

@@ -89,8 +89,8 @@ fn shared(alloc: Global, made: Nodes) -> Result<Vec<Rc<Node>>, AllocError>
     Ok(list)
 }
 
-// The changes, each node in memory that can be shared.
-fn exchanges(alloc: Global, changes: Changes) -> Result<Vec<Exchange>, AllocError>
+/// The changes, each node in memory that can be shared.
+pub fn exchanges(alloc: Global, changes: Changes) -> Result<Vec<Exchange>, AllocError>
     ensures { IfOk result (λ list. map change_of list.items ≡ changes) }
 {
     let mut list = Vec::new(alloc);

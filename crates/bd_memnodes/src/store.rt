@@ -9,7 +9,7 @@ ghost use Rattle.bd_memnodes.specs.Reading.{same_nodes-none, same_nodes-both};
 use crate::kept::{Kept, count_of};
 use bd_keys::Bytes;
 use bd_message::MapFault;
-use bd_node::{Edge, Edges, Items, Messages, Node, NodeStore, Step};
+use bd_node::{Edge, Edges, Items, Messages, Node, NodeStore, Push, Step};
 use std::alloc::{AllocError, Global};
 use std::collections::HashMap;
 use std::marker::Model;
@@ -22,7 +22,7 @@ use std::rc::Rc;
 /// A fetch finds its node by hashing, and copies nothing. A commit takes the time of what the step
 /// holds and names, of the nodes that go, and of the messages that wait in the root, however many
 /// nodes there are. An append or an extension takes that of its messages and new nodes, unless a
-/// caller holds the root.
+/// caller holds the root. A push takes that of its two nodes, which it copies.
 #[derive(Drop)]
 pub struct MemNodes {
     alloc: Global,
@@ -141,6 +141,10 @@ impl NodeStore for MemNodes {
             }
             Err(fault) => Err(fault),
         }
+    }
+
+    fn push_down(&mut self, push: Push) -> Result<(), MapFault> {
+        self.kept.push_down(self.alloc, push)
     }
 
     fn root(&self) -> u64 {

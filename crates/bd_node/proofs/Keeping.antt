@@ -267,7 +267,7 @@ left_has kind mask xs places j m at is all =
     let stays : stays_at mask (get_or places there.0 0) ≡ true = subst (λ (i : ℕ). stays_at mask i ≡ true) (sym there.2) (stays_there mask stood.place stood.stays) in
     subst (λ (i : ℕ). has (moved mask places) i ≡ true) (ap (stay_count mask) there.2 ∙ stood.now) (kept_has mask places there.0 there.1 stays)
 
-some_at : (xs : List Message) (i : ℕ) → i < length xs → (m : Message) × (slice_get xs i ≡ Some m)
+pub some_at : (xs : List Message) (i : ℕ) → i < length xs → (m : Message) × (slice_get xs i ≡ Some m)
 some_at [] i h = absurd (omega arith)
 some_at (x ∷ xs) zero h = (x, refl)
 some_at (x ∷ xs) (suc i) h = some_at xs i (omega arith)

@@ -21,8 +21,14 @@ pub mod Appending
 pub mod Counting
 pub mod Closing
 pub mod Extending
+pub mod Pushing
 pub mod LawLemmas
 pub mod Halving
 pub mod Parts
 pub mod Owning
 pub mod Marking
+pub mod Compacting
+pub mod Relieving
+pub mod InPlace
+pub mod Going
+pub mod ReliefOf

@@ -1,14 +1,14 @@
 -- Nodes without the messages that are pending for no edge.
 use Rattle.std.specs.Prelude.{◌≡◌, ◌↔◌, ℕ, ◌≤◌, Bool, true, List, [], length, map, Some, slice_get}
 use Rattle.std.specs.List.{AllByRecursion, sum_by}
-use Rattle.bd_limits.specs.Limits.{key_limit, buffer_limit, level_limit, edge_limit}
+use Rattle.bd_limits.specs.Limits.{buffer_limit, level_limit, edge_limit}
 use Rattle.bd_message.specs.declared.message.Message.{Message}
 use Rattle.bd_message.specs.Messages.{IsMessage, size}
 use Rattle.bd_node.specs.declared.node.Edge.{Edge}
 use Rattle.bd_node.specs.declared.node.Node.{Node}
 use Rattle.bd_node.specs.declared.node.Node.TheVariants.{Leaf, Inner}
 use Rattle.bd_node.specs.Keeping.{staying, stay_count}
-use Rattle.bd_node.specs.Shape.{end_before, EachEdge, SomeEdge, IsChild, IsEdge, IsPending, IsLeaf}
+use Rattle.bd_node.specs.Shape.{end_before, EachEdge, SomeEdge, IsEdge, IsPending, IsLeaf}
 
 -- an inner node, but that messages may be pending for no edge
 pub record IsLoose (level : ℕ) (edges : List Edge) (buffer : List Message) : Type 0 where

@@ -14,6 +14,7 @@ pub mod Private
 pub mod Steps
 pub mod Compaction
 pub mod Pushes
+pub mod Reliefs
 pub mod Stores
 pub mod Frames
 pub mod Closed

@@ -1,16 +1,17 @@
 //! The messages that wait in a node.
 
 ghost use Rattle.std.specs.Prelude.{◌≡◌, ◌≤◌, ◌↔◌, ◌++◌, [], length, IfOk, IsTrue, OnOk, OnErr, Some};
-ghost use Rattle.std.specs.Option.{option_copied};
+ghost use Rattle.std.specs.Option.{ForSome, option_copied};
 ghost use Rattle.std.specs.List.{AllByRecursion, sum_by};
 ghost use Rattle.bd_keys.specs.Keys.{IsBelowEnd};
 ghost use Rattle.bd_limits.specs.Limits.{buffer_limit};
 ghost use Rattle.bd_message.specs.Messages.{IsMessage, size};
-ghost use Rattle.bd_node.specs.Index.{IsNewestTouching, IsNextPoint, IsNextRange, is_point_at};
+ghost use Rattle.bd_node.specs.Index.{IsIndex, IsNewestTouching, IsNextPoint, IsNextRange, is_point_at};
 ghost use Rattle.bd_node.specs.Keeping.{staying};
 ghost use Rattle.bd_node.specs.Owners.{AreOwners};
 ghost use Rattle.bd_node.specs.Shape.{AreRising, end_before};
 ghost use Rattle.bd_node.specs.Spans.{AreTouching};
+ghost use Rattle.bd_node.specs.Stems.{AreByStem};
 ghost use Rattle.bd_node.specs.Touching.{IsNextTouching};
 
 use crate::index::{self, Index};
@@ -158,12 +159,50 @@ impl Messages {
         requires { length mask.now ≡ length self.now }
         ensures { IfOk result (λ list. list ≡ staying mask.now self.now) }
     {
-        let alloc = *self.items.allocator();
-        let (items, index) = staying::kept(alloc, self.items.as_slice(), &self.index, mask)?;
+        let alloc = self.allocator();
+        let items = staying::staying(alloc, self.items.as_slice(), mask)?;
+        let index = self.kept_index(mask)?;
+        let list = items.as_slice();
+        let index = index::regrown(alloc, index, list, list.len())?;
         Ok(Messages {
             items,
             index: Some(index),
         })
+    }
+
+    /// The index of the messages of which the mask says that they stay, where there is one of all.
+    pub(crate) fn kept_index(&self, mask: &[bool]) -> Result<Option<Index>, AllocError>
+        requires { length mask.now ≡ length self.now }
+        ensures { IfOk result (λ found. ForSome found (λ index.
+            IsIndex (staying mask.now self.now) (length (staying mask.now self.now))
+            index.points.items index.ranges.items
+            × AreByStem (staying mask.now self.now) (length (staying mask.now self.now))
+            index.stems.items)) }
+    {
+        match &self.index {
+            Some(index) => Ok(Some(staying::moved_index(self.allocator(), index, mask)?)),
+            None => Ok(None),
+        }
+    }
+
+    /// Keeps those of the messages of which the mask says that they stay, in place, with the index
+    /// of these if there is one.
+    pub(crate) fn keep(&mut self, mask: &[bool], index: Option<Index>)
+        requires long { length mask.now ≡ length self.old }
+        requires index { ForSome index (λ index.
+            IsIndex (staying mask.now self.old) (length (staying mask.now self.old))
+            index.points.items index.ranges.items
+            × AreByStem (staying mask.now self.old) (length (staying mask.now self.old))
+            index.stems.items) }
+        ensures { self.new ≡ staying mask.now self.old }
+    {
+        staying::keep(&mut self.items, mask);
+        self.index = index;
+    }
+
+    /// The allocator of whose memory they take.
+    pub(crate) fn allocator(&self) -> Global {
+        *self.items.allocator()
     }
 
     /// The place of the oldest message from a place on that can change what stands at a key. It is

@@ -124,7 +124,7 @@ fn work_at<S: NodeStore>(
         }
         Work::Push { child: None } => push_new(alloc, store, &parent, place),
         Work::Push { child: Some(child) } => {
-            push(alloc, store, above.as_slice(), &parent, place, &child)
+            push(alloc, store, above.as_slice(), parent, place, child)
         }
         Work::Privatise => privatise(alloc, store, &parent, place),
         Work::Carve { index } => carve(alloc, store, &parent, place, index),

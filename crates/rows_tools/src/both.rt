@@ -3,6 +3,7 @@
 use crate::messages::{apply, graft};
 use bd_memnodes::MemNodes;
 use bd_message::{KeyMap, ListMap, Message};
+use bd_node::NodeStore;
 use bd_tree::Tree;
 use std::alloc::Global;
 use std::test::Fail;
@@ -79,7 +80,7 @@ impl Both {
 }
 
 /// Flushes until at most so many bytes wait in the root.
-pub fn flush(tree: &mut Tree<MemNodes>, limit: usize) -> Result<(), Fail> {
+pub fn flush<S: NodeStore>(tree: &mut Tree<S>, limit: usize) -> Result<(), Fail> {
     for _ in 0..1_000 {
         if !tree.flush_step(limit)? {
             return Ok(());

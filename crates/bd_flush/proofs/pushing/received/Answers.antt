@@ -3,7 +3,7 @@ use Rattle.std.specs.List.{sum_by}
 use Rattle.bd_limits.specs.Limits.{batch_limit}
 use Rattle.bd_message.specs.Messages.{size}
 use Rattle.bd_flush.proofs.Pushed.{batch_low}
-use Rattle.bd_flush.proofs.Batches.{batch_messages, batch_fits, are_received}
+use Rattle.bd_flush.proofs.Batches.{batch_messages, batch_fits, are_received, inner_descent, each_plain}
 use Rattle.bd_flush.proofs.pushing.received.Goals as goal
 
 pub relieved-requires-clause-there : goal.relieved-requires-clause-there
@@ -16,6 +16,11 @@ pub receive-requires-clause-fits : goal.receive-requires-clause-fits
 receive-requires-clause-fits c =
     let fits : sum_by size c.in_ok-batch.batch.messages ≤ batch_limit = batch_fits c.args.node.now c.args.place c.in_ok-batch.batch c.requires.within c.in_ok-batch.ensures in
     omega (arith, c.requires.soft, fits)
+
+pub returns-then-are_plain : goal.returns-then-are_plain
+returns-then-are_plain c =
+    inner_descent c.args.node.now c.args.place c.args.child.now c.in_ok-batch.batch c.requires.within c.requires.inner c.requires.waiting c.in_ok-batch.ensures
+    (each_plain c.as_slice.result.now c.in_ok-batch.batch.messages c.as_slice.ensures (c.are_plain.ensures.0 c.if-are_plain.true))
 
 pub returns : goal.returns
 returns c =

@@ -1,7 +1,8 @@
 use Rattle.std.proofs.Common.{ℕ, ◌/◌, ◌≤◌, List, [], ◌∷◌, ◌++◌, length, arith, refl, ap, ◌∙◌}
 use Rattle.bd_node.specs.declared.node.Edge.{Edge}
 use Rattle.bd_inner.specs.Halves.{bare_edge}
-use Rattle.bd_inner.proofs.Splitting.{few_wait, lower_is, upper_is, sweep_lower, sweep_upper, halves_at}
+use Rattle.bd_node.proofs.Compacting.{few_wait}
+use Rattle.bd_inner.proofs.Splitting.{lower_is, upper_is, sweep_lower, sweep_upper, halves_at}
 use Rattle.bd_inner.proofs.halves.split_inner.Goals as goal
 
 pub overflow_cast-seen : goal.overflow_cast-seen

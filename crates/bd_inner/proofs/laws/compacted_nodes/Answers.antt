@@ -1,4 +1,4 @@
-use Rattle.bd_inner.proofs.Compacting.{loose_shape, compacted_shape, compacted_level, compacted_meaning, compacted_size, compacted_times}
+use Rattle.bd_node.proofs.Compacting.{loose_shape, compacted_shape, compacted_level, compacted_meaning, compacted_size, compacted_times}
 use Rattle.bd_inner.proofs.laws.compacted_nodes.Goals as goal
 
 pub returns-clause-loose : goal.returns-clause-loose
