@@ -25,7 +25,6 @@ pub mod ReadyLemmas
 pub mod SavedLemmas
 pub mod SlotLemmas
 pub mod SpilledLemmas
-pub mod StandIns
 pub mod StepLoops
 pub mod SteppedLemmas
 pub mod StepsLemmas

@@ -53,7 +53,8 @@ use Rattle.bd_pager.proofs.ExtendedLemmas.{copied_there, read_spot}
 use Rattle.bd_pager.proofs.PagerLemmas.{kept_there}
 use Rattle.bd_pager.proofs.PuttingLemmas.{put_is}
 use Rattle.bd_pager.proofs.ReaderLemmas.{copy_of_level}
-use Rattle.bd_pager.proofs.StandIns.{relieved_level, relieved_shape, relieved_names, pushed_after}
+use Rattle.bd_node.proofs.Relieving.{relieved_level, relieved_shape, relieved_names}
+use Rattle.bd_node.proofs.Pushing.{pushed_after}
 use Rattle.bd_pager.proofs.SteppedLemmas.{none_mapped}
 use Rattle.bd_pager.proofs.StepsLemmas.{OnlyReadsOf, no_loans, each_mapped}
 use Rattle.bd_pager.proofs.TestedLemmas.{copy_unread, some_at, spot_of_some}

@@ -19,7 +19,6 @@ mod pushing;
 mod reader;
 mod reading;
 mod slots;
-mod stand_in;
 mod stepping;
 mod tested;
 mod usage;

@@ -15,7 +15,6 @@ ghost use Rattle.bd_pager.specs.Stepping.{put_at, with_put};
 use crate::changing::append_to;
 use crate::extending::copy_of;
 use crate::place::{Place, Spot};
-use crate::stand_in::{fits, relief, relieve};
 use crate::stepping::{Put, forget_puts, list_all, put_all};
 use crate::usage::Usage;
 use bd_cache::NodeCache;
@@ -148,15 +147,15 @@ fn push_between(
         × (¬ CanMake push parent.old child.old.value))) }
     ensures err { OnErr result ((parent.new ≡ parent.old) × (child.new ≡ child.old)) }
 {
-    if !fits(&push.gain, child) {
+    if !push.gain.fits(child) {
         return Ok(Some(push));
     }
-    let found = relief(parent, push.place, push.count)?;
+    let found = parent.relief(push.place, push.count)?;
     let Some(relief) = found else {
         return Ok(Some(push));
     };
     give(alloc, child, push.gain)?;
-    relieve(parent, relief);
+    parent.relieve(relief);
     Ok(None)
 }
 

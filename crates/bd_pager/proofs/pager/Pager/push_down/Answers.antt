@@ -24,8 +24,7 @@ invariant_of-self g c =
     let q : Paged g.row.D.Denot = record p { spots = entries } in
     let back = given_back c.args.push (spots_of p) (spots_of q) c.in-Ok-Some.field-0 c.in-Ok-Some.push c.in-Ok-Some.field-0-is c.in-Ok-Some.ensures.ok in
     let same : spots_of p ≡ spots_of q = λ j id. sym (back.1 id) j in
-    let left : OnlyReadsOf D old q = subst (λ (x : Paged g.row.D.Denot). OnlyReadsOf D x q) c.self.view_is (unchanged D p entries same) in
-    (
+    let left : OnlyReadsOf D old q = subst (λ (x : Paged g.row.D.Denot). OnlyReadsOf D x q) c.self.view_is (unchanged D p entries same) in (
       reordered D p entries same c.self.invariant.0,
       subst (λ (s : Spots). IsTallied i.next s i.usage) same c.self.invariant.1,
       subst (λ (s : Spots). AreTested s i.reader.cache i.reader.tested) same c.self.invariant.2,
@@ -134,8 +133,7 @@ invariant_of-self-2 g c =
     let p : Paged g.row.D.Denot = seen i.reader i.saved i.at.items i.usage.spare i.root i.size i.next i.visits i.written in
     let entries = c.push_in_place.new.spots.entries in
     let made = made_in_place c.args.push (spots_of p) (λ id. lookup (nat_eq id) entries) c.in-Ok-None.field-0 c.in-Ok-None.field-0-is c.in-Ok-None.ensures.ok in
-    let is : IsPush (table_of p) c.args.push = subst (λ (x : Paged g.row.D.Denot). IsPush (table_of x) c.args.push) (sym c.self.view_is) c.requires.push in
-    (
+    let is : IsPush (table_of p) c.args.push = subst (λ (x : Paged g.row.D.Denot). IsPush (table_of x) c.args.push) (sym c.self.view_is) c.requires.push in (
       place_paged D p c.args.push entries c.self.invariant.0 is made c.waiting_in-self-inside.result c.waiting_in-self-inside.ensures,
       spots_tallied D p c.args.push entries c.self.invariant.0 is made i.usage c.self.invariant.1,
       place_tested D p c.args.push entries c.self.invariant.0 is made c.waiting_in-self-inside.result c.waiting_in-self-inside.ensures i.reader.tested c.self.invariant.2,
