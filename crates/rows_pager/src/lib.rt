@@ -20,8 +20,6 @@ mod filled;
 #[cfg(test)]
 mod fresh;
 #[cfg(test)]
-mod held;
-#[cfg(test)]
 mod reading;
 #[cfg(test)]
 mod stored;
