@@ -28,7 +28,7 @@ use Rattle.bd_node.proofs.Sound.{sound-levelled}
 use Rattle.bd_inner.specs.Clipping.{IsClipped}
 use Rattle.bd_node.specs.Compaction.{IsCompacted}
 use Rattle.bd_node.specs.Parts.{IsEdgeAt, edges_of, buffer_of}
-use Rattle.bd_inner.proofs.Compacting.{compacted_shape, compacted_level, compacted_meaning, compacted_times}
+use Rattle.bd_node.proofs.Compacting.{compacted_shape, compacted_level, compacted_meaning, compacted_times}
 use Rattle.bd_inner.proofs.Fitting.{own_shape}
 use Rattle.bd_resolve.specs.declared.following.Target.{Target}
 use Rattle.bd_resolve.specs.Following.{IsLowerTarget}

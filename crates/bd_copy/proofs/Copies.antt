@@ -21,7 +21,7 @@ use Rattle.bd_node.specs.Parts.{edges_of, buffer_of, end_at, IsEdgeAt}
 use Rattle.bd_node.specs.Compaction.{IsCompacted}
 use Rattle.bd_inner.specs.Exchanging.{FitsAt, way_to}
 use Rattle.bd_node.specs.Pushes.{exchanged}
-use Rattle.bd_inner.proofs.Compacting.{count_names, compacted_shape, compacted_level, compacted_meaning, compacted_size, compacted_times}
+use Rattle.bd_node.proofs.Compacting.{count_names, compacted_shape, compacted_level, compacted_meaning, compacted_size, compacted_times}
 use Rattle.bd_inner.proofs.Fitting.{own_shape}
 use Rattle.bd_inner.proofs.Moved.{moved_none}
 use Rattle.bd_inner.proofs.Exchanged.{exchanged_shape, pushed}

@@ -1,9 +1,10 @@
 -- What of a directory's children comes next.
-use Rattle.std.specs.Prelude.{◌≡◌, ℕ, List, [], ◌∷◌, ◌++◌, Option, None, Some}
-use Rattle.bd_names.specs.Names.{key_of}
+use Rattle.std.specs.Prelude.{◌≡◌, ℕ, ◌<◌, ◌≤◌, Bool, true, false, IsTrue, List, [], ◌∷◌, ◌++◌, length, Option, None, Some}
+use Rattle.std.specs.List.{list_all}
+use Rattle.bd_names.specs.Names.{key_of, is_name_byte}
+use Rattle.bd_model.specs.Tree.{Tree}
+use Rattle.bd_model.specs.Step.{children, those_after, listing_of}
 use Rattle.bd_command.specs.declared.reply.Listed.{Listed}
-use Rattle.bd_dirs.specs.declared.listing.Look.{Look}
-use Rattle.bd_dirs.specs.declared.listing.Look.TheVariants.{End, Child, Past}
 
 -- the first of the names, if there is one
 abbrev pub first_of : List Listed → Option Listed
@@ -19,8 +20,19 @@ lower (Some n) = n
 abbrev pub key_after : List (List ℕ) → Option (List ℕ) → List ℕ
 key_after path after = key_of path ++ (lower after ++ 1 ∷ [])
 
--- what a look finds of the first of the children that are left: of a tree nothing is passed over
-abbrev pub IsLook : Option Listed → Look → Type 0
-IsLook first End = first ≡ None
-IsLook first (Child child) = first ≡ Some child
-IsLook first (Past key) = ⊥
+-- a listing as far as it has come: the names that were listed and those after the last of them, from
+-- whose keys the search goes on, are all
+pub record IsListedTo (t : Tree) (path : List (List ℕ)) (all names : List Listed) (from : List ℕ)
+    : Type 0 where
+  pub last : Option (List ℕ)
+  pub bytes : IsTrue (list_all is_name_byte (lower last))
+  pub from_is : from ≡ key_after path last
+  pub all_are : all ≡ names ++ those_after last (children path t)
+
+-- what so many entries add: where there is one child more than there is room for, the listing is
+-- whole, and else it has come further where there are any entries
+pub record IsAdded (t : Tree) (path : List (List ℕ)) (all old new : List Listed) (from : List ℕ)
+    (found : ℕ) (more : Bool) : Type 0 where
+  pub whole : more ≡ true → record { names = new; more = true } ≡ listing_of all
+  pub listed : more ≡ false → IsListedTo t path all new from
+  pub further : more ≡ false → 1 ≤ found → length old < length new

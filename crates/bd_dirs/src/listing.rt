@@ -14,40 +14,37 @@ ghost use Rattle.bd_message.specs.declared.fault.MapFault.TheVariants as fault;
 ghost use Rattle.bd_message.specs.KeyMaps.{At, IsNextEntry, HasMapCause, NeverWorn};
 ghost use Rattle.bd_message.specs.Reads.{IsLeft};
 ghost use Rattle.bd_represent.specs.Represents.{Represents, record_of};
-ghost use Rattle.bd_dirs.specs.Listings.{first_of, lower, key_after, IsLook};
+ghost use Rattle.bd_dirs.specs.Listings.{first_of, lower, key_after, IsListedTo, IsAdded};
+ghost use Rattle.bd_scan.specs.Scans.{AreNext};
 
 use bd_command::{Listed, Listing, Names, Refusal, Reply};
 use bd_files::record;
 use bd_keys::tail;
 use bd_limits::MAX_LISTING;
-use bd_message::{KeyMap, MapFault};
+use bd_message::MapFault;
 use bd_names::{Name, Path, PathFault};
 use bd_records::{Record, read_record};
+use bd_scan::{Found, Scan};
 use std::alloc::{AllocError, Global};
 
-// How many entries that are none of a tree's are passed over in a directory, one after the other,
-// before it is taken to end there.
+// How many scans in a row may find none but entries that are none of a tree's, before a directory is
+// taken to end there.
 const MAX_PASSED: u32 = 65_536;
+
+// How many entries the first scan of a listing asks for, and any at most and at least.
+const FIRST_SCAN: usize = 16;
+const MAX_SCAN: usize = 64;
+const MIN_SCAN: usize = 4;
 
 // What follows a name in the key of its record.
 const RECORD_END: [u8; 3] = [0, 0, 0];
 
-// What a look finds in a directory.
-#[derive(Drop)]
-enum Look {
-    // Nothing more.
-    End,
-    // A child.
-    Child(Listed),
-    // An entry that is none of a tree's; the search goes on from this key.
-    Past(Vec<u8>),
-}
-
 /// The names of what stands in the directory at a path, at most 100 of them, in the order of their
 /// bytes: those greater than `after`, if it is given. They come with whether more follow. In a map
 /// that no tree is represented by, entries that are none of a tree's (a name that is none, or that
-/// has no record) are passed over, at most 65,536 of them one after the other.
-pub fn list<M: KeyMap>(
+/// has no record) are passed over, and after 65,536 scans in a row that find none but those the
+/// directory is taken to end.
+pub fn list<M: Scan>(
     alloc: Global,
     m: &mut M,
     path: &Path,
@@ -69,7 +66,7 @@ pub fn list<M: KeyMap>(
 }
 
 /// The names, where a directory is at the path.
-fn listing<M: KeyMap>(
+fn listing<M: Scan>(
     alloc: Global,
     m: &mut M,
     path: &Path,
@@ -83,98 +80,80 @@ fn listing<M: KeyMap>(
     ensures cause { HasMapCause (M.fault_count m.old) (M.fault_count m.new)
         (M.bad m.new) NeverWorn result }
 {
-    let mut names = Vec::new(alloc);
-    let more = add_children(alloc, m, path, after, MAX_LISTING, &mut names)?;
-    Ok(Listing {
-        names: Names::from_vec(names),
-        more,
-    })
-}
-
-/// Adds the children that come after a name, as many as there is room for, and says whether more
-/// follow.
-fn add_children<M: KeyMap>(
-    alloc: Global,
-    m: &mut M,
-    path: &Path,
-    after: Option<&Name>,
-    room: usize,
-    names: &mut Vec<Listed>,
-) -> Result<bool, MapFault>
-    ensures names { M.is_known m.old → (t : Tree) → IsTree t → Represents (M.has m.old) t
-        → IfOk result (λ more. names.new.items ≡ names.old.items
-        ++ take room (those_after (option_copied after.entry) (children path.now t))) }
-    ensures more { M.is_known m.old → (t : Tree) → IsTree t → Represents (M.has m.old) t
-        → IfOk result (λ more. more
-        ≡ nat_lt room (length (those_after (option_copied after.entry) (children path.now t)))) }
-    ensures few { IfOk result (λ more.
-        length names.new.items ≤ length names.old.items + room) }
-    ensures left { IsLeft M.KeyMap m.old m.new }
-    ensures cause { HasMapCause (M.fault_count m.old) (M.fault_count m.new)
-        (M.bad m.new) NeverWorn result }
-{
-    match next_child(alloc, m, path, after)? {
-        None => Ok(false),
-        Some(_) if room == 0 => Ok(true),
-        Some(child) => {
-            let name = child.name.clone()?;
-            names.push(child)?;
-            add_children(alloc, m, path, Some(&name), room - 1, names)
-        }
-    }
-}
-
-/// The first child that comes after a name, or the first of all.
-fn next_child<M: KeyMap>(
-    alloc: Global,
-    m: &mut M,
-    path: &Path,
-    after: Option<&Name>,
-) -> Result<Option<Listed>, MapFault>
-    ensures child { M.is_known m.old → (t : Tree) → IsTree t → Represents (M.has m.old) t
-        → IfOk result (λ child.
-        child ≡ first_of (those_after (option_copied after.entry) (children path.now t))) }
-    ensures left { IsLeft M.KeyMap m.old m.new }
-    ensures cause { HasMapCause (M.fault_count m.old) (M.fault_count m.new)
-        (M.bad m.new) NeverWorn result }
-{
     let within = path.key(alloc)?;
     let mut from = key_after(alloc, &within, after)?;
+    let mut names = Vec::new(alloc);
+    let mut most = FIRST_SCAN;
     let mut passed = 0;
-    while passed < MAX_PASSED {
-        match looked_at(alloc, m, &within, &from)? {
-            Look::End => return Ok(None),
-            Look::Child(child) => return Ok(Some(child)),
-            Look::Past(key) => from = key,
+    'scans: while passed < MAX_PASSED {
+        let found = m.scan(alloc, &from, &within, most)?;
+        let before = names.len();
+        if found.is_empty() {
+            break 'scans;
         }
-        passed += 1;
+        if add_found(alloc, &within, &found, &mut from, &mut names)? {
+            return Ok(listing_from(names, true));
+        }
+        let added = names.len() - before;
+        most = next_most(added);
+        passed = if added == 0 { passed + 1 } else { 0 };
     }
-    Ok(None)
+    Ok(listing_from(names, false))
 }
 
-/// What is found from a key on.
-fn looked_at<M: KeyMap>(
-    alloc: Global,
-    m: &mut M,
-    within: &[u8],
-    from: &[u8],
-) -> Result<Look, MapFault>
-    ensures child { M.is_known m.old → (t : Tree) → IsTree t → Represents (M.has m.old) t
-        → (path : List (List ℕ)) (after : Option (List ℕ)) → AreNames path
-        → IsTrue (list_all is_name_byte (lower after)) → within.now ≡ key_of path
-        → from.now ≡ key_after path after
-        → IfOk result (IsLook (first_of (those_after after (children path t)))) }
-    ensures left { IsLeft M.KeyMap m.old m.new }
-    ensures cause { HasMapCause (M.fault_count m.old) (M.fault_count m.new)
-        (M.bad m.new) NeverWorn result }
+/// A listing of these names.
+fn listing_from(names: Vec<Listed>, more: bool) -> Listing
+    ensures { result ≡ record { names = names.items; more = more } }
 {
-    let Some((key, value)) = m.next(from, within)? else {
-        return Ok(Look::End);
-    };
-    match child_at(alloc, within, &key, &value)? {
-        Some(child) => Ok(Look::Child(child)),
-        None => Ok(Look::Past(key_past(alloc, within, &key)?)),
+    Listing {
+        names: Names::from_vec(names),
+        more,
     }
+}
+
+/// How many entries a scan asks for after one that had so many children: more where most of what was
+/// found were children, and few where it was mostly what stands below them.
+fn next_most(children: usize) -> usize
+    ensures { 1 ≤ result }
+{
+    children.saturating_mul(4).clamp(MIN_SCAN, MAX_SCAN)
+}
+
+/// Adds the children that are among what was found, as many as there is room for, and says whether
+/// there is one more. `from` is the key from which the search goes on after the last of them.
+fn add_found(
+    alloc: Global,
+    within: &[u8],
+    found: &[Found],
+    from: &mut Vec<u8>,
+    names: &mut Vec<Listed>,
+) -> Result<bool, MapFault>
+    ensures added { (at : At) (t : Tree) (path : List (List ℕ)) (all : List Listed)
+        → IsTree t → Represents at t → AreNames path → within.now ≡ key_of path
+        → IsListedTo t path all names.old.items from.old.items
+        → AreNext at from.old.items within.now found.now
+        → IfOk result (IsAdded t path all names.old.items names.new.items from.new.items
+        (length found.now)) }
+    ensures few { length names.old.items ≤ listing_limit
+        → IfOk result (λ _. length names.new.items ≤ listing_limit) }
+    ensures more { IfOk result (λ _. length names.old.items ≤ length names.new.items) }
+    ensures fault { IfErr result (λ cause. cause ≡ fault.NoMemory) }
+{
+    for each in found {
+        let key = each.key.as_slice();
+        if key.cmp(from.as_slice()).is_lt() {
+            continue;
+        }
+        match child_at(alloc, within, key, each.value.as_slice())? {
+            Some(_) if names.len() >= MAX_LISTING => return Ok(true),
+            Some(child) => {
+                *from = key_after(alloc, within, Some(&child.name))?;
+                names.push(child)?;
+            }
+            None => *from = key_past(alloc, within, key)?,
+        }
+    }
+    Ok(false)
 }
 
 /// The key from which a search goes on past an entry that is none of a tree's: that of the record of

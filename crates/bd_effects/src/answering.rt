@@ -11,11 +11,12 @@ ghost use Rattle.bd_represent.specs.Represents.{Represents};
 use bd_command::{Command, Reply};
 use bd_dirs::{list, stat};
 use bd_files::read;
-use bd_message::{KeyMap, MapFault};
+use bd_message::MapFault;
+use bd_scan::Scan;
 use std::alloc::Global;
 
 /// What a reading command is answered, over any key map.
-pub fn answer<M: KeyMap>(alloc: Global, m: &mut M, command: &Command) -> Result<Reply, MapFault>
+pub fn answer<M: Scan>(alloc: Global, m: &mut M, command: &Command) -> Result<Reply, MapFault>
     requires limits { IsCommand command.now }
     requires reads { writes command.now ≡ false }
     ensures reply { M.is_known m.old → (t : Tree) → IsTree t → Represents (M.has m.old) t

@@ -21,9 +21,8 @@ use Rattle.bd_inner.specs.Halves.{AreHalves}
 use Rattle.bd_inner.specs.Batches.{CanMove, IsBatch}
 use Rattle.bd_node.specs.Compaction.{IsCompacted}
 use Rattle.bd_inner.specs.Exchanging.{FitsAt}
-use Rattle.bd_inner.proofs.Splitting.{few_wait}
 use Rattle.bd_inner.proofs.Fitting.{seen_fits}
-use Rattle.bd_inner.proofs.Compacting.{compacted_shape}
+use Rattle.bd_node.proofs.Compacting.{few_wait, compacted_shape}
 use Rattle.bd_inner.proofs.Exchanged.{exchanged_shape}
 use Rattle.bd_leaf.specs.Leaves.{entries_size, IsReceived}
 use Rattle.bd_flush.specs.declared.children.Parts.{Parts}

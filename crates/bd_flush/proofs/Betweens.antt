@@ -25,7 +25,7 @@ use Rattle.bd_node.proofs.Stepping.{given-old, by_given, changed_at-same, change
 use Rattle.bd_inner.specs.declared.halves.Halves.{Halves}
 use Rattle.bd_inner.specs.Halves.{IsHalf}
 use Rattle.bd_node.specs.Pushes.{exchanged, seen_by, IsRelieved}
-use Rattle.bd_inner.proofs.Compacting.{compacted_shape, compacted_level, compacted_meaning}
+use Rattle.bd_node.proofs.Compacting.{compacted_shape, compacted_level, compacted_meaning}
 use Rattle.bd_inner.proofs.Exchanged.{exchanged_shape}
 use Rattle.bd_path.specs.declared.fetching.Fetched.{Fetched}
 use Rattle.bd_path.specs.Flushed.{LeadsTo, IsFlushed, IsHardlyHigher}

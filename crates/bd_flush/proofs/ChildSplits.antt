@@ -33,7 +33,7 @@ use Rattle.bd_inner.specs.Halves.{IsHalf, AreHalves}
 use Rattle.bd_inner.specs.Batches.{lifted}
 use Rattle.bd_inner.specs.Exchanging.{IsKeyOf, FitsAt}
 use Rattle.bd_node.specs.Pushes.{exchanged}
-use Rattle.bd_inner.proofs.Compacting.{count_names, count_names-append, compacted_shape, compacted_level, compacted_meaning, compacted_times}
+use Rattle.bd_node.proofs.Compacting.{count_names, count_names-append, compacted_shape, compacted_level, compacted_meaning, compacted_times}
 use Rattle.bd_inner.proofs.Exchanged.{in_range, exchanged_shape, meaning_inside, meaning_outside, meaning_without}
 use Rattle.bd_node.proofs.Parts.{some_edge, inner_of}
 use Rattle.bd_path.proofs.EdgesAt.{as_edge, child_named, some_next}

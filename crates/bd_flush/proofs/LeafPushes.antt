@@ -23,7 +23,7 @@ use Rattle.bd_node.specs.Parts.{buffer_of, end_at, IsEdgeAt}
 use Rattle.bd_inner.specs.Batches.{IsMoved}
 use Rattle.bd_inner.specs.Exchanging.{FitsAt}
 use Rattle.bd_node.specs.Pushes.{exchanged, seen_by}
-use Rattle.bd_inner.proofs.Compacting.{count_names, compacted_shape, compacted_level, compacted_meaning, compacted_size, compacted_times}
+use Rattle.bd_node.proofs.Compacting.{count_names, compacted_shape, compacted_level, compacted_meaning, compacted_size, compacted_times}
 use Rattle.bd_inner.proofs.Fitting.{own_shape, way_fits}
 use Rattle.bd_inner.proofs.Exchanged.{exchanged_shape, pushed}
 use Rattle.bd_flush.specs.Pushing.{unseen, IsWaitedFor, IsEdgeBatch, IsWay, IsNewLeaf}

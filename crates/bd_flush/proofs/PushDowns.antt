@@ -26,7 +26,7 @@ use Rattle.bd_node.specs.Pushes.{exchanged, seen_by, IsPlainFor, IsRelieved, gai
 use Rattle.bd_node.proofs.Lookup.{named_has}
 use Rattle.bd_node.proofs.Stepping.{changed_at-same, changed_at-other}
 use Rattle.bd_inner.specs.declared.batches.Batch.{Batch}
-use Rattle.bd_inner.proofs.Compacting.{compacted_level}
+use Rattle.bd_node.proofs.Compacting.{compacted_level}
 use Rattle.bd_inner.proofs.Named.{compacted_small, level_exchanged}
 use Rattle.bd_path.specs.declared.fetching.Fetched.{Fetched}
 use Rattle.bd_path.specs.Flushed.{IsFlushed, IsNoHigher}

@@ -30,7 +30,7 @@ use Rattle.bd_node.specs.declared.node.Node.{Node}
 use Rattle.bd_node.specs.Compaction.{IsCompacted}
 use Rattle.bd_inner.specs.declared.halves.Halves.{Halves}
 use Rattle.bd_node.specs.Pushes.{exchanged}
-use Rattle.bd_inner.proofs.Compacting.{compacted_level}
+use Rattle.bd_node.proofs.Compacting.{compacted_level}
 use Rattle.bd_flush.specs.Splitting.{over_step}
 use Rattle.bd_inner.proofs.Named.{level_exchanged}
 use Rattle.bd_flush.proofs.RootSplits.{both, over_none}

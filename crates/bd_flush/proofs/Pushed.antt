@@ -22,7 +22,7 @@ use Rattle.bd_inner.specs.declared.batches.Batch.{Batch}
 use Rattle.bd_node.specs.Parts.{buffer_of, end_at, IsEdgeAt}
 use Rattle.bd_inner.specs.Batches.{goto_count, IsMoved}
 use Rattle.bd_inner.specs.Exchanging.{IsKeyOf}
-use Rattle.bd_inner.proofs.Compacting.{count_names, count_names-append, compacted_meaning}
+use Rattle.bd_node.proofs.Compacting.{count_names, count_names-append, compacted_meaning}
 use Rattle.bd_inner.proofs.Fitting.{own_shape}
 use Rattle.bd_inner.proofs.Exchanged.{exchanged_shape, pushed}
 use Rattle.bd_leaf.specs.Leaves.{IsReceived}

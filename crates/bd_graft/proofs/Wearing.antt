@@ -30,7 +30,7 @@ use Rattle.bd_node.specs.Steps.{given_times, added_times, IsWornBy, IsWornByAddi
 use Rattle.bd_node.proofs.Lookup.{each_weaker}
 use Rattle.bd_node.proofs.Sound.{one_if-same, one_if-other}
 use Rattle.bd_node.proofs.Extending.{times_extended}
-use Rattle.bd_inner.proofs.Splitting.{few_wait}
+use Rattle.bd_node.proofs.Compacting.{few_wait}
 use Rattle.bd_resolve.specs.declared.following.Target.{Target}
 use Rattle.bd_graft.specs.declared.layers.Layer.{Layer}
 use Rattle.bd_graft.specs.Layers.{AreLayers}

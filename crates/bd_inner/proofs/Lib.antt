@@ -1,4 +1,3 @@
-pub mod Compacting
 pub mod Splitting
 pub mod Moved
 pub mod Exchanged

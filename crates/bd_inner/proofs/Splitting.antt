@@ -21,7 +21,6 @@ use Rattle.bd_node.specs.Keeping.{staying}
 use Rattle.bd_node.specs.Parts.{edges_of}
 use Rattle.bd_node.specs.Compaction.{IsLoose, lowered, IsSwept}
 use Rattle.bd_inner.specs.Halves.{goto_times, bare_edge, IsHalf, AreHalves}
-pub use Rattle.bd_node.proofs.Compacting.{few_wait}
 use Rattle.bd_node.proofs.Compacting.{count_names, count_names-append, edge_names-lowered, compacted_shape, compacted_level, compacted_meaning, compacted_size, compacted_times}
 
 -- ---- edges before and after a place

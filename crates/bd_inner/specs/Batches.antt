@@ -11,6 +11,7 @@ use Rattle.bd_message.specs.Freeing.{freed, KeepsSource}
 use Rattle.bd_node.specs.declared.node.Edge.{Edge}
 use Rattle.bd_node.specs.Touching.{touches, CanTouch}
 use Rattle.bd_node.specs.Nodes.{message_names}
+use Rattle.bd_node.specs.Pushes.{IsPlainFor}
 use Rattle.bd_inner.specs.declared.batches.Batch.{Batch}
 
 -- how often messages name a node
@@ -31,11 +32,6 @@ pub record IsLifted (e : Edge) (hi : Option (List ℕ)) : Type 0 where
 -- of keys that all begin with the bytes that are left out
 abbrev pub CanMove : Edge → Option (List ℕ) → Message → Type 0
 CanMove e hi m = (k : List ℕ) → InRange e.pivot hi k → touches m k ≡ true → KeepsSource (lifted e) m
-
--- where the message can change what stands at a key of an edge, whose keys end there, it names no
--- node
-abbrev pub IsPlainFor : Edge → Option (List ℕ) → Message → Type 0
-IsPlainFor e hi m = (k : List ℕ) → InRange e.pivot hi k → touches m k ≡ true → IsPlain m
 
 -- messages that do to the child's keys of an edge, whose own keys end there, what others do to its
 -- own keys

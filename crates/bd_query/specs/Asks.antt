@@ -16,7 +16,7 @@ use Rattle.bd_node.specs.Tables.{Table}
 use Rattle.bd_query.specs.declared.part.Base.{Base}
 use Rattle.bd_query.specs.declared.part.Base.TheVariants.{Value, Ask}
 use Rattle.bd_query.specs.declared.stretch.Stretch.{Stretch}
-use Rattle.bd_query.specs.declared.stretch.Stretch.TheVariants.{Present, Next, Absent, Child}
+use Rattle.bd_query.specs.declared.stretch.Stretch.TheVariants.{Present, Run, Absent, Child}
 
 -- a node and the key that it is asked
 abbrev pub Question : Type 0
@@ -60,7 +60,7 @@ asked_of (Ask child key) = Some (child, key)
 -- whom a stretch asks
 abbrev pub asked_in : Stretch → List ℕ → Option Question
 asked_in (Present part) k = asked_of part.base
-asked_in (Next key value) k = None
+asked_in (Run entries) k = None
 asked_in (Absent end) k = None
 asked_in (Child end child lift source) k = Some (child, source ++ drop lift k)
 

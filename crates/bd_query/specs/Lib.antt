@@ -1,3 +1,4 @@
 pub mod Looks
 pub mod Stretches
 pub mod Asks
+pub mod Runs

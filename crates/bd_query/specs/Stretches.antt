@@ -1,5 +1,6 @@
 -- What is known of a key and of the keys after it.
-use Rattle.std.specs.Prelude.{◌≡◌, ℕ, ◌+◌, ◌*◌, ◌<◌, ◌≤◌, ◌==◌, Bool, true, false, List, ◌++◌, length, take, drop, Option, None, Some, IsSome, IfSome, count_by, slice_get, ⊤}
+use Rattle.std.specs.Prelude.{◌≡◌, ℕ, ◌+◌, ◌*◌, ◌<◌, ◌≤◌, ◌==◌, Bool, true, false, List, [], ◌∷◌, ◌++◌, length, take, drop, Option, None, Some, IsSome, IfSome, count_by, slice_get, ⊤}
+use Rattle.std.specs.List.{AllByRecursion}
 use Rattle.bd_limits.specs.Limits.{key_limit}
 use Rattle.bd_keys.specs.Keys.{IsKey, IsBelowEnd, IsAtLeast, InRange, Begins}
 use Rattle.bd_message.specs.declared.message.Message.{Message}
@@ -7,14 +8,15 @@ use Rattle.bd_message.specs.declared.message.Message.TheVariants.{Put, Del, Patc
 use Rattle.bd_message.specs.KeyMaps.{At}
 use Rattle.bd_message.specs.Effect.{NodesAt}
 use Rattle.bd_node.specs.declared.node.Edge.{Edge}
+use Rattle.bd_node.specs.declared.node.Entry.{Entry}
 use Rattle.bd_node.specs.Tables.{Table, IsLower}
 use Rattle.bd_node.specs.Index.{touches_at}
 use Rattle.bd_node.specs.Touching.{touches, NoneTouches}
 use Rattle.bd_query.specs.Looks.{part_at, IsNamedIn, IsLowerBase}
 use Rattle.bd_query.specs.declared.stretch.Stretch.{Stretch}
-use Rattle.bd_query.specs.declared.stretch.Stretch.TheVariants.{Present, Next, Absent, Child}
+use Rattle.bd_query.specs.declared.stretch.Stretch.TheVariants.{Present, Run, Absent, Child}
 use Rattle.bd_query.specs.declared.turns.Turn.{Turn}
-use Rattle.bd_query.specs.declared.turns.Turn.TheVariants.{Found, Next, Passed}
+use Rattle.bd_query.specs.declared.turns.Turn.TheVariants.{Found, Run, Passed}
 
 -- ---- ends
 
@@ -84,6 +86,16 @@ pub record IsFirst (at : At) (lo key value : List ℕ) : Type 0 where
   pub empty : IsEmpty at lo (Some key)
   pub has : at key ≡ Some value
 
+-- the entries of the first keys from this one on that have a value, as many as there are entries
+abbrev pub IsRun : At → List ℕ → List Entry → Type 0
+IsRun at lo [] = ⊤
+IsRun at lo (e ∷ es) =
+    IsKey e.key × IsFirst at lo e.key e.value × IsRun at (e.key ++ 0 ∷ []) es
+
+-- and there is at least one
+abbrev pub IsSomeRun : At → List ℕ → List Entry → Type 0
+IsSomeRun at lo entries = (1 ≤ length entries) × IsRun at lo entries
+
 -- each key from this one up to the end has its first bytes, as many as the lift says, and what the
 -- child has at the source and the key's other bytes
 abbrev pub IsAsked : At → At → List ℕ → Option (List ℕ) → ℕ → List ℕ → Type 0
@@ -93,7 +105,7 @@ IsAsked at child lo end lift source = (k : List ℕ) → IsKey k → InRange lo 
 -- what is said of what stands at a key and at the keys after it
 abbrev pub IsStretch : NodesAt → At → List ℕ → Stretch → Type 0
 IsStretch below at lo (Present part) = IsSome (at lo) × (at lo ≡ part_at below part)
-IsStretch below at lo (Next key value) = IsKey key × IsFirst at lo key value
+IsStretch below at lo (Run entries) = IsSomeRun at lo entries
 IsStretch below at lo (Absent end) = IsEmpty at lo end
 IsStretch below at lo (Child end child lift source) =
     IsAsked at (below child) lo end lift source
@@ -101,29 +113,29 @@ IsStretch below at lo (Child end child lift source) =
 -- a stretch ends above the key; the lift is at most 518, and the key is as long
 abbrev pub HasEnd : List ℕ → Stretch → Type 0
 HasEnd lo (Present part) = ⊤
-HasEnd lo (Next key value) = IsEnd lo end_limit (Some key)
+HasEnd lo (Run entries) = ⊤
 HasEnd lo (Absent end) = IsEnd lo end_limit end
 HasEnd lo (Child end child lift source) =
     IsEnd lo end_limit end × (lift ≤ key_limit) × (lift ≤ length lo)
 
--- a stretch ends at this end or before it, and the next key is before it
+-- a stretch ends at this end or before it, and the keys of a run are before it
 abbrev pub EndsBy : Option (List ℕ) → Stretch → Type 0
 EndsBy other (Present part) = ⊤
-EndsBy other (Next key value) = IsBelowEnd key other
+EndsBy other (Run entries) = AllByRecursion (λ (e : Entry). IsBelowEnd e.key other) entries
 EndsBy other (Absent end) = IsWithin end other
 EndsBy other (Child end child lift source) = IsWithin end other
 
 -- a node that is asked is one of these
 abbrev pub AsksOneOf : List ℕ → Stretch → Type 0
 AsksOneOf ns (Present part) = IsNamedIn ns part.base
-AsksOneOf ns (Next key value) = ⊤
+AsksOneOf ns (Run entries) = ⊤
 AsksOneOf ns (Absent end) = ⊤
 AsksOneOf ns (Child end child lift source) = 1 ≤ count_by (λ name. name == child) ns
 
 -- a node that is asked is kept and of a lower level
 abbrev pub AsksLower : Table → ℕ → Stretch → Type 0
 AsksLower t level (Present part) = IsLowerBase t level part.base
-AsksLower t level (Next key value) = ⊤
+AsksLower t level (Run entries) = ⊤
 AsksLower t level (Absent end) = ⊤
 AsksLower t level (Child end child lift source) = IsLower t level child
 
@@ -139,15 +151,15 @@ pub record IsWay (e : Edge) (lo : List ℕ) (end : Option (List ℕ)) : Type 0 w
 abbrev pub way_limit : ℕ → ℕ
 way_limit level = end_limit * (level + 1)
 
--- what a turn finds: the key's value, the next key that has one and its value, or up to where none
--- has one
+-- what a turn finds: the key's value, the entries of the first keys that have one, or up to where
+-- none has one
 abbrev pub IsTurn : At → List ℕ → Turn → Type 0
 IsTurn at lo (Found value) = at lo ≡ Some value
-IsTurn at lo (Next key value) = IsFirst at lo key value
+IsTurn at lo (Run entries) = IsSomeRun at lo entries
 IsTurn at lo (Passed end) = IsEmpty at lo end
 
 -- a turn passes the key, to an end of at most so many bytes
 abbrev pub PassesTo : List ℕ → ℕ → Turn → Type 0
 PassesTo lo most (Found value) = ⊤
-PassesTo lo most (Next key value) = IsEnd lo most (Some key)
+PassesTo lo most (Run entries) = ⊤
 PassesTo lo most (Passed end) = IsEnd lo most end

@@ -1,5 +1,5 @@
-//! What nodes have at a key, and the least key that has something, asked of any store of nodes.
-//! The layers above use `get` and `next`.
+//! What nodes have at a key, and the least keys that have something, asked of any store of nodes.
+//! The layers above use `get`, `scan` and `next`.
 #![tactic(auto)]
 
 mod ends;
@@ -10,5 +10,5 @@ mod stretch;
 mod turns;
 mod ways;
 
-pub use search::next;
+pub use search::{next, scan};
 pub use ways::get;

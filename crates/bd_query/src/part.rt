@@ -88,7 +88,7 @@ fn copied(alloc: Global, value: Option<&[u8]>) -> Result<Option<Bytes>, AllocErr
 }
 
 // A value that is known.
-pub fn known(alloc: Global, found: Option<Bytes>) -> Part
+fn known(alloc: Global, found: Option<Bytes>) -> Part
     ensures part { (below : NodesAt) → part_at below result ≡ found }
     ensures base { result.base ≡ Base.Value found }
     ensures named { (ns : List ℕ) → IsNamedIn ns result.base }

@@ -1,7 +1,8 @@
 //! What one node says of a key and of the keys after it.
 
-ghost use Rattle.std.specs.Prelude.{◌≡◌, ℕ, ◌+◌, ◌-◌, ◌*◌, ◌<◌, ◌≤◌, true, false, List, [], ◌++◌, length, drop, Option, None, Some, IfOk, IfSome, slice_get};
+ghost use Rattle.std.specs.Prelude.{◌≡◌, ℕ, ◌+◌, ◌-◌, ◌*◌, ◌<◌, ◌≤◌, true, false, List, [], ◌++◌, length, drop, take, Option, None, Some, IfOk, IfSome, slice_get};
 ghost use Rattle.std.specs.List.{AllByRecursion, flat_map};
+ghost use Rattle.bd_keys.specs.Keys.{IsKey};
 ghost use Rattle.bd_message.specs.Messages.{IsMessage};
 ghost use Rattle.bd_message.specs.Effect.{NodesAt, act};
 ghost use Rattle.bd_node.specs.Index.{is_point_at, is_range_at};
@@ -11,10 +12,12 @@ ghost use Rattle.bd_node.specs.Shape.{IsShape, IsEntry, IsRising, AreRising};
 ghost use Rattle.bd_leaf.specs.Places.{IsPlace};
 ghost use Rattle.bd_query.specs.Asks.{Question, asked_by, asked_first, asked_through, asked_at, asked_in};
 ghost use Rattle.bd_query.specs.Stretches.{IsEnd, IsWithin, IsNewest, NoneAmong, after, gives_value, IsWay, IsStretch, HasEnd, EndsBy, AsksOneOf, end_limit};
+ghost use Rattle.bd_query.specs.Runs.{IsFirstFrom};
+ghost use Rattle.bd_node.specs.declared.node.Entry.{Entry};
 
 use crate::ends::{bytes_of, copied_end, end_within, narrowed, successor};
-use crate::part::{Part, known, part_through};
-use bd_keys::Bytes;
+use crate::part::{Part, part_through};
+use bd_keys::{Bytes, Items};
 use bd_message::Message;
 use bd_node::{Edge, Entry, Messages, Node, Steps, end_of};
 use std::alloc::{AllocError, Global};
@@ -26,10 +29,9 @@ use std::sync::ledger::{Blank, Ledger};
 pub enum Stretch {
     /// The key has a value, of which this is known.
     Present(Part),
-    /// No key from this one up to `key` has a value, and that one has this one.
-    Next {
-        key: Bytes,
-        value: Bytes,
+    /// The first keys from this one on that have a value, with their values.
+    Run {
+        entries: Items<Entry>,
     },
     /// No key from this one up to the end has one.
     Absent {
@@ -53,9 +55,15 @@ struct Newest {
     end: Option<Bytes>,
 }
 
-/// What a node says of a key and of the keys after it.
-pub fn stretch_of(alloc: Global, node: &Node, key: &[u8]) -> Result<Stretch, AllocError>
-    requires { IsShape node.now }
+/// What a node says of a key and of the keys after it; a leaf gives at most so many entries.
+pub fn stretch_of(
+    alloc: Global,
+    node: &Node,
+    key: &[u8],
+    most: usize,
+) -> Result<Stretch, AllocError>
+    requires shape { IsShape node.now }
+    requires some { 1 ≤ most }
     ensures stretch { IfOk result (λ stretch. (below : NodesAt)
         → IsStretch below (node_at below node.now) key.now stretch) }
     ensures end { IfOk result (λ stretch. HasEnd key.now stretch) }
@@ -64,7 +72,7 @@ pub fn stretch_of(alloc: Global, node: &Node, key: &[u8]) -> Result<Stretch, All
         asked_at node.now key.now ≡ asked_in stretch key.now) }
 {
     match node {
-        Node::Leaf(entries) => among(alloc, entries.as_slice(), key),
+        Node::Leaf(entries) => among(alloc, entries.as_slice(), key, most),
         Node::Inner { edges, buffer, .. } => {
             let edges = edges.as_slice();
             let place = edge_place(edges, key);
@@ -74,31 +82,62 @@ pub fn stretch_of(alloc: Global, node: &Node, key: &[u8]) -> Result<Stretch, All
     }
 }
 
-// What the entries of a leaf say.
-fn among(alloc: Global, entries: &[Entry], key: &[u8]) -> Result<Stretch, AllocError>
+// What the entries of a leaf say, by at most so many of them.
+fn among(
+    alloc: Global,
+    entries: &[Entry],
+    key: &[u8],
+    most: usize,
+) -> Result<Stretch, AllocError>
     requires rising { IsRising entries.now }
     requires short { AllByRecursion IsEntry entries.now }
+    requires some { 1 ≤ most }
     ensures stretch { IfOk result (λ stretch. (below : NodesAt)
         → IsStretch below (entry_at entries.now) key.now stretch) }
     ensures end { IfOk result (λ stretch. HasEnd key.now stretch) }
     ensures named { IfOk result (λ stretch. AsksOneOf [] stretch) }
     ensures asks { IfOk result (λ stretch. asked_in stretch key.now ≡ None) }
 {
-    match search(entries, key) {
-        Ok(place) => {
-            let value = entries[place].value.clone()?;
-            Ok(Stretch::Present(known(alloc, Some(value))))
-        }
-        Err(place) => match entries.get(place) {
-            Some(entry) => {
-                let key = entry.key.clone()?;
-                let value = entry.value.clone()?;
-                let _bytes = bytes_of(key.as_slice());
-                Ok(Stretch::Next { key, value })
-            }
-            None => Ok(Stretch::Absent { end: None }),
-        },
+    let first = first_from(entries, key);
+    let last = entries.len().min(first.saturating_add(most));
+    if first == last {
+        return Ok(Stretch::Absent { end: None });
     }
+    let entries = Items::from_vec(copied_between(alloc, entries, first, last)?);
+    Ok(Stretch::Run { entries })
+}
+
+// The place of the first entry whose key isn't below this one.
+fn first_from(entries: &[Entry], key: &[u8]) -> usize
+    requires { IsRising entries.now }
+    ensures { IsFirstFrom entries.now key.now result }
+{
+    match search(entries, key) {
+        Ok(place) | Err(place) => place,
+    }
+}
+
+// Copies of the entries from one place up to another.
+fn copied_between(
+    alloc: Global,
+    entries: &[Entry],
+    first: usize,
+    last: usize,
+) -> Result<Vec<Entry>, AllocError>
+    requires order { first ≤ last }
+    requires within { last ≤ length entries.now }
+    ensures copies { IfOk result (λ copies.
+        copies.items ≡ take (last - first) (drop first entries.now)) }
+    ensures keys { IfOk result (λ copies.
+        AllByRecursion (λ (e : Entry). IsKey e.key) copies.items) }
+{
+    let mut copies = Vec::new(alloc);
+    for entry in &entries[first..last] {
+        let copy = entry.clone()?;
+        let _bytes = bytes_of(copy.key.as_slice());
+        copies.push(copy)?;
+    }
+    Ok(copies)
 }
 
 // The place of a key among entries, where nobody asks for the number of comparisons.

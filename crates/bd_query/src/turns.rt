@@ -1,26 +1,30 @@
-//! Turns of a search: each is one way down along a key, and finds the key's value, which key is the
-//! next that has one and its value, or up to which key none has one.
+//! Turns of a search: each is one way down along a key, and finds the key's value, the first keys
+//! that have one and their values, or up to which key none has one.
 
-ghost use Rattle.std.specs.Prelude.{◌≡◌, ℕ, ◌+◌, ◌≤◌, List, ◌++◌, length, take, drop, Some, IfOk, OnOk};
+ghost use Rattle.std.specs.Prelude.{◌≡◌, ℕ, ◌+◌, ◌≤◌, List, [], ◌++◌, length, take, drop, Some, IfOk, OnOk};
+ghost use Rattle.std.specs.List.{AllByRecursion};
 ghost use Rattle.bd_limits.specs.Limits.{key_limit};
-ghost use Rattle.bd_keys.specs.Keys.{IsKey, IsBelowEnd, IsAtLeast, InRange, Begins};
+ghost use Rattle.bd_keys.specs.Keys.{IsKey, InRange, Begins};
 ghost use Rattle.bd_message.specs.Effect.{NodesAt};
 ghost use Rattle.bd_message.specs.KeyMaps.{At, HasMapCause, NeverWorn};
 ghost use Rattle.bd_node.specs.Frames.{OfSound, OnlyReads};
 ghost use Rattle.bd_node.specs.declared.node.Node.{Node};
+ghost use Rattle.bd_node.specs.declared.node.Entry.{Entry};
 ghost use Rattle.bd_node.specs.Nodes.{node_at};
 ghost use Rattle.bd_node.specs.Meaning.{at};
 ghost use Rattle.bd_node.specs.Tables.{IsKept};
 ghost use Rattle.bd_node.specs.Stores.{visited, AreVisits};
 ghost use Rattle.bd_query.specs.Stretches.{IsEnd, IsAsked, IsStretch, HasEnd, AsksLower, IsTurn, PassesTo, end_limit, way_limit};
+ghost use Rattle.bd_query.specs.Runs.{is_before, raised_entry, raised_run};
+ghost use Rattle.bd_query.specs.declared.turns.Turn.TheVariants as turn;
 ghost use Rattle.bd_query.specs.Asks.{asked_at, asked_in, AreVisitsOfWay};
 
 use crate::ends::{bytes_of, joined, lesser};
 use crate::stretch::{Stretch, stretch_of};
 use crate::ways::value_of;
-use bd_keys::{Bytes, front, starts, tail};
+use bd_keys::{Bytes, Items, front, starts, tail};
 use bd_message::MapFault;
-use bd_node::NodeStore;
+use bd_node::{Entry, NodeStore};
 use std::alloc::{AllocError, Global};
 
 /// What a turn finds.
@@ -28,22 +32,25 @@ use std::alloc::{AllocError, Global};
 pub enum Turn {
     /// The key has this value.
     Found { value: Bytes },
-    /// No key from this one up to `key` has one, and that one has this one.
-    Next { key: Bytes, value: Bytes },
+    /// The first keys from this one on that have one, with their values.
+    Run { entries: Items<Entry> },
     /// No key from this one up to the end has one.
     Passed { end: Option<Bytes> },
 }
 
-/// One way down from a kept node along a key: it finds the value there, or the next key that has
-/// one and its value, or up to which end above it no key has one. A node asks at most one other,
-/// and none where a message gives or takes all of the value.
+/// One way down from a kept node along a key: it finds the value there, or the first keys that have
+/// one and their values, as many of at most so many as a leaf has where the nodes above leave them,
+/// or up to which end above it no key has one. A node asks at most one other, and none where a
+/// message gives or takes all of the value.
 pub fn turn_at<S: NodeStore>(
     alloc: Global,
     store: &mut S,
     id: u64,
     key: &[u8],
+    most: usize,
 ) -> Result<Turn, MapFault>
-    requires { IsKept (S.table store.old) id }
+    requires kept { IsKept (S.table store.old) id }
+    requires some { 1 ≤ most }
     ensures turn { OfSound S.NodeStore store.old
         (IfOk result (λ turn. IsTurn (at (S.nodes store.old) id) key.now turn)) }
     ensures passes { IfOk result (λ turn.
@@ -60,13 +67,13 @@ pub fn turn_at<S: NodeStore>(
         (OnOk result (AreVisitsOfWay (S.nodes store.old) id key.now
         (S.visit_count store.old) (S.visit_count store.new))) }
 {
-    let stretch = stretch_at(alloc, store, id, key)?;
+    let stretch = stretch_at(alloc, store, id, key, most)?;
     match stretch {
         Stretch::Present(part) => {
             let value = value_of(alloc, store, part)?;
             Ok(Turn::Found { value })
         }
-        Stretch::Next { key, value } => Ok(Turn::Next { key, value }),
+        Stretch::Run { entries } => Ok(Turn::Run { entries }),
         Stretch::Absent { end } => Ok(Turn::Passed { end }),
         Stretch::Child {
             end,
@@ -75,7 +82,7 @@ pub fn turn_at<S: NodeStore>(
             source,
         } => {
             let asked = joined(alloc, source.as_slice(), tail(key, lift))?;
-            let turn = turn_at(alloc, store, child, asked.as_slice())?;
+            let turn = turn_at(alloc, store, child, asked.as_slice(), most)?;
             let turn = raised(alloc, turn, end, key, lift, source.as_slice())?;
             Ok(turn)
         }
@@ -88,8 +95,10 @@ fn stretch_at<S: NodeStore>(
     store: &mut S,
     id: u64,
     key: &[u8],
+    most: usize,
 ) -> Result<Stretch, MapFault>
-    requires { IsKept (S.table store.old) id }
+    requires kept { IsKept (S.table store.old) id }
+    requires some { 1 ≤ most }
     ensures stretch { S.is_known store.old → IfOk result (λ stretch. (n : Node)
         → S.nodes store.old id ≡ Some n → (below : NodesAt)
         → IsStretch below (node_at below n) key.now stretch) }
@@ -105,7 +114,7 @@ fn stretch_at<S: NodeStore>(
     ensures visits { S.visit_count store.new ≡ visited (S.visit_count store.old) 1 }
 {
     let node = store.fetch(id)?;
-    Ok(stretch_of(alloc, &node, key)?)
+    Ok(stretch_of(alloc, &node, key, most)?)
 }
 
 // What a child's turn says of the keys that it was asked for.
@@ -130,9 +139,9 @@ fn raised(
 {
     match turn {
         Turn::Found { value } => Ok(Turn::Found { value }),
-        Turn::Next { key: below, value } => {
-            let next = end_above(alloc, Some(below), key, lift, source)?;
-            Ok(next_before(next, value, end))
+        Turn::Run { entries } => {
+            let run = raised_run(alloc, entries, &end, front(key, lift), source)?;
+            Ok(run_or_end(run, end))
         }
         Turn::Passed { end: below } => {
             let below = end_above(alloc, below, key, lift, source)?;
@@ -142,27 +151,70 @@ fn raised(
     }
 }
 
-// What a node's turn is where its child's finds a key: that key where it is below the node's end,
-// and else only the end is known. Where no key of the node stands for the child's, it is none.
-fn next_before(next: Option<Bytes>, value: Bytes, end: Option<Bytes>) -> Turn
-    ensures turn { (at : At) (lo : List ℕ)
-        → ((k : List ℕ) → IsKey k → InRange lo end k → IsBelowEnd k next → at k ≡ None)
-        → ((k : List ℕ) → next ≡ Some k → IsBelowEnd k end
-        → IsAtLeast k lo × (at k ≡ Some value))
-        → IsTurn at lo result }
-    ensures passes { (lo : List ℕ) (most : ℕ) → IsEnd lo most next → IsEnd lo most end
-        → PassesTo lo most result }
+// The entries of a child's run whose keys stand for some that are below the end, up to the first
+// that doesn't.
+fn raised_run(
+    alloc: Global,
+    entries: Items<Entry>,
+    end: &Option<Bytes>,
+    shared: &[u8],
+    source: &[u8],
+) -> Result<Items<Entry>, AllocError>
+    ensures run { IfOk result (λ run. run ≡ raised_run end.now shared.now source.now entries) }
+    ensures keys { IfOk result (AllByRecursion (λ (e : Entry). IsKey e.key)) }
 {
-    match (next, end) {
-        (Some(key), Some(end)) => {
-            if key.cmp(&end).is_lt() {
-                Turn::Next { key, value }
-            } else {
-                Turn::Passed { end: Some(end) }
-            }
+    let mut run = Vec::new(alloc);
+    for entry in entries.into_vec() {
+        if !starts(entry.key.as_slice(), source) {
+            break;
         }
-        (Some(key), None) => Turn::Next { key, value },
-        (None, end) => Turn::Passed { end },
+        let entry = raised_entry(alloc, entry, shared, source)?;
+        if !is_before(&entry.key, end) {
+            break;
+        }
+        let _bytes = bytes_of(entry.key.as_slice());
+        run.push(entry)?;
+    }
+    Ok(Items::from_vec(run))
+}
+
+// An entry at the key that its own stands for. Where an edge neither leaves out nor puts in front
+// anything, that is the same.
+fn raised_entry(
+    alloc: Global,
+    entry: Entry,
+    shared: &[u8],
+    source: &[u8],
+) -> Result<Entry, AllocError>
+    ensures { IfOk result (λ raised. raised ≡ raised_entry shared.now source.now entry) }
+{
+    if shared.is_empty() && source.is_empty() {
+        return Ok(entry);
+    }
+    let Entry { key, value } = entry;
+    let key = joined(alloc, shared, tail(key.as_slice(), source.len()))?;
+    Ok(Entry { key, value })
+}
+
+// Whether a key is below an end.
+fn is_before(key: &Bytes, end: &Option<Bytes>) -> bool
+    ensures { result ≡ is_before key.now end.now }
+{
+    match end {
+        Some(end) => key.cmp(end).is_lt(),
+        None => true,
+    }
+}
+
+// What a turn finds: a run of entries, or where there is none, that no key up to the end has a value.
+fn run_or_end(run: Items<Entry>, end: Option<Bytes>) -> Turn
+    ensures some { 1 ≤ length run → result ≡ turn.Run run }
+    ensures none { run ≡ [] → result ≡ turn.Passed end }
+{
+    if run.is_empty() {
+        Turn::Passed { end }
+    } else {
+        Turn::Run { entries: run }
     }
 }
 
@@ -181,8 +233,6 @@ fn end_above(
         → IsEnd (source.now ++ drop lift key.now) most end → (k : List ℕ)
         → Begins k (take lift key.now) → InRange key.now new k
         → InRange (source.now ++ drop lift key.now) end (source.now ++ drop lift k)) }
-    ensures same { IfOk result (λ new. (k : List ℕ) → new ≡ Some k
-        → IsKey k × (end ≡ Some (source.now ++ drop lift k))) }
 {
     let Some(end) = end else {
         return Ok(None);
@@ -190,7 +240,6 @@ fn end_above(
     if starts(end.as_slice(), source) {
         let rest = tail(end.as_slice(), source.len());
         let raised = joined(alloc, front(key, lift), rest)?;
-        let _bytes = bytes_of(raised.as_slice());
         Ok(Some(raised))
     } else {
         Ok(None)

@@ -4,6 +4,8 @@ ghost use Rattle.bd_recall.specs.Kept.{findings, IsKept};
 
 use crate::recalled::{Recalled, shown};
 use bd_message::{KeyMap, MapFault, Message};
+use bd_scan::{Found, Scan};
+use std::alloc::Global;
 
 /// A key map, and what is known of it. Who changes the map itself has to let what is kept follow
 /// that, or forget what it may change.
@@ -64,5 +66,17 @@ impl<M: KeyMap> KeyMap for Recalling<M> {
 
     fn faults(&self) -> u64 {
         self.map.faults()
+    }
+}
+
+impl<M: Scan> Scan for Recalling<M> {
+    fn scan(
+        &mut self,
+        alloc: Global,
+        from: &[u8],
+        within: &[u8],
+        most: usize,
+    ) -> Result<Vec<Found>, MapFault> {
+        self.map.scan(alloc, from, within, most)
     }
 }

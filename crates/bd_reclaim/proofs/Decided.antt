@@ -24,11 +24,11 @@ use Rattle.bd_node.proofs.Lookup.{count-cons_other}
 use Rattle.bd_node.specs.Compaction.{IsLoose, IsLooseNode, IsCompacted}
 use Rattle.bd_node.specs.Parts.{edges_of, buffer_of, end_at, IsEdgeAt}
 use Rattle.bd_inner.proofs.CarvingOwned.{begins_front}
-use Rattle.bd_inner.proofs.Compacting.{count_names, count_names-append, compacted_shape, compacted_level, compacted_meaning, compacted_size, compacted_times}
+use Rattle.bd_node.proofs.Compacting.{few_wait, count_names, count_names-append, compacted_shape, compacted_level, compacted_meaning, compacted_size, compacted_times}
 use Rattle.bd_inner.proofs.Exchanged.{at_place}
 use Rattle.bd_inner.proofs.Moved.{each_at}
 use Rattle.bd_inner.proofs.Named.{count_own}
-use Rattle.bd_inner.proofs.Splitting.{few_wait, end_before-front, EachEdge-front, EachEdge-back, rising}
+use Rattle.bd_inner.proofs.Splitting.{end_before-front, EachEdge-front, EachEdge-back, rising}
 use Rattle.bd_node.proofs.Parts.{edge_within, edge_here}
 use Rattle.bd_reclaim.specs.declared.covering.Cover.{Cover}
 use Rattle.bd_reclaim.specs.declared.covering.Cover.TheVariants.{Gone, Elsewhere}

@@ -9,6 +9,8 @@ ghost use Rattle.bd_graft.specs.Grafting.{IsWornForGraft};
 use crate::tree::Tree;
 use bd_message::{KeyMap, MapFault, Message};
 use bd_node::NodeStore;
+use bd_scan::{Found, Scan};
+use std::alloc::Global;
 
 impl<S: NodeStore> KeyMap for Tree<S> {
     ghost is_known = { λ tree. S.is_known tree.store
@@ -55,5 +57,17 @@ impl<S: NodeStore> KeyMap for Tree<S> {
 
     fn faults(&self) -> u64 {
         Tree::faults(self)
+    }
+}
+
+impl<S: NodeStore> Scan for Tree<S> {
+    fn scan(
+        &mut self,
+        alloc: Global,
+        from: &[u8],
+        within: &[u8],
+        most: usize,
+    ) -> Result<Vec<Found>, MapFault> {
+        Tree::scan(self, alloc, from, within, most)
     }
 }

@@ -1,6 +1,6 @@
 //! The tree.
 
-ghost use Rattle.std.specs.Prelude.{◌≡◌, ◌≢◌, ◌↔◌, ℕ, ◌+◌, ◌-◌, ◌*◌, ◌^◌, ◌<◌, ◌≤◌, List, IfOk, IfErr, IfSome, MatchOption, OnOk, true, false, OnErr, Ok, Some};
+ghost use Rattle.std.specs.Prelude.{◌≡◌, ◌≢◌, ◌↔◌, ℕ, ◌+◌, ◌-◌, ◌*◌, ◌^◌, ◌<◌, ◌≤◌, List, length, IfOk, IfErr, IfSome, MatchOption, OnOk, true, false, OnErr, Ok, Some};
 ghost use Rattle.std.specs.Borrow.{sem};
 ghost use Rattle.std.specs.Option.{option_map};
 ghost use Rattle.bd_limits.specs.Limits.{buffer_limit};
@@ -17,14 +17,16 @@ ghost use Rattle.bd_path.specs.Made.{AreKnown};
 ghost use Rattle.bd_reclaim.specs.Walking.{IsFirst, HasNone, IsToDo, IsToDoAt, walk_size};
 ghost use Rattle.bd_reclaim.specs.Reclaimed.{IsReclaimed, IsReclaimMade, IsRootAfter, IsNextAfter, LeavesLess, reclaim_visits, IsWornChange};
 ghost use Rattle.bd_step.specs.Steps.{IsFlushStep, IsFound, step_visits, IsWornToFlush};
+ghost use Rattle.bd_scan.specs.Scans.{IsScan};
 ghost use Rattle.bd_tree.specs.Lending.{lends_store};
 
 use bd_graft::{Walk, graft};
 use bd_limits::MAX_BUFFER;
 use bd_message::{MapFault, Message};
 use bd_node::{Messages, NodeStore};
-use bd_query::{get, next};
+use bd_query::{get, next, scan};
 use bd_reclaim::{Reclaim, reclaim_next, reclaim_step};
+use bd_scan::Found;
 use bd_step::flush_step;
 use std::alloc::Global;
 use std::marker::Model;
@@ -131,6 +133,35 @@ impl<S: NodeStore> Tree<S> {
     {
         let root = self.store.root();
         next(self.alloc, &mut self.store, root, from, within)
+    }
+
+    /// What stands at the keys from `from` on that begin with `within`, of any length, the least first
+    /// and none left out: at least one and at most `most`, and none where there is none. The nodes that
+    /// are visited are those that are asked on ways down along rising keys. A way goes no further where
+    /// a message gives or takes all of the value.
+    pub fn scan(
+        &mut self,
+        alloc: Global,
+        from: &[u8],
+        within: &[u8],
+        most: usize,
+    ) -> Result<Vec<Found>, MapFault>
+        requires { 1 ≤ most }
+        ensures found { OfSound S.NodeStore self.old.store (IfOk result (λ found. IsScan
+            (root_at (S.nodes self.old.store) (S.table self.old.store)) from.now within.now
+            found.items)) }
+        ensures few { IfOk result (λ found. length found.items ≤ most) }
+        ensures left { OnlyReads S.NodeStore self.old.store self.new.store }
+        ensures cause { HasMapCause (S.fault_count self.old.store) (S.fault_count self.new.store)
+            (S.bad self.new.store) NeverWorn result }
+        ensures ways { OfSound S.NodeStore self.old.store
+            (OnOk result (AreVisitsOfWays (S.nodes self.old.store)
+            (S.table self.old.store).root from.now (S.visit_count self.old.store)
+            (S.visit_count self.new.store))) }
+        ensures walk { self.new.walk ≡ self.old.walk }
+    {
+        let root = self.store.root();
+        scan(alloc, &mut self.store, root, from, within, most)
     }
 
     /// For how many bytes of messages there is room.
