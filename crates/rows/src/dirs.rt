@@ -1,6 +1,7 @@
 //! Files and directories over a key map: rows whose replies come from the rules.
 
-use bd_message::{KeyMap, ListMap};
+use bd_message::ListMap;
+use bd_scan::Scan;
 use rows_tools::{answer, apply, root_alone, text_of};
 use std::alloc::Global;
 use std::test::Fail;
@@ -50,7 +51,7 @@ const LINES: &[(&str, &str)] = &[
 ];
 
 /// The text of what a line is answered over a key map.
-fn answered<M: KeyMap>(alloc: Global, map: &mut M, line: &str) -> Result<String, Fail> {
+fn answered<M: Scan>(alloc: Global, map: &mut M, line: &str) -> Result<String, Fail> {
     let found = answer(alloc, map, line)?;
     text_of(alloc, &found)
 }

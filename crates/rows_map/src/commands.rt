@@ -8,8 +8,8 @@ use std::alloc::Global;
 use std::test::Fail;
 
 /// A tree of nodes and the plain program after the same commands.
-struct Both {
-    tree: Tree<MemNodes>,
+pub struct Both {
+    pub tree: Tree<MemNodes>,
     plain: PlainTree,
 }
 
@@ -22,7 +22,7 @@ impl Drop for Both {
 
 impl Both {
     /// Both with `/` alone.
-    fn new(alloc: Global) -> Result<Both, Fail> {
+    pub fn new(alloc: Global) -> Result<Both, Fail> {
         let mut tree = Tree::over(alloc, MemNodes::new(alloc)?);
         apply(&mut tree, root_alone(alloc)?)?;
         Ok(Both {
@@ -32,13 +32,13 @@ impl Both {
     }
 
     /// What the tree answers to a line.
-    fn found(&mut self, alloc: Global, line: &str) -> Result<String, Fail> {
+    pub fn found(&mut self, alloc: Global, line: &str) -> Result<String, Fail> {
         let found = answer(alloc, &mut self.tree, line)?;
         shown(alloc, &found)
     }
 
     /// What the plain program answers to it.
-    fn wanted(&mut self, alloc: Global, line: &str) -> Result<String, Fail> {
+    pub fn wanted(&mut self, alloc: Global, line: &str) -> Result<String, Fail> {
         let want = plain_answer(alloc, &mut self.plain, line)?;
         shown(alloc, &want)
     }

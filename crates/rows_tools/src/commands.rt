@@ -11,6 +11,7 @@ use bd_message::{KeyMap, Message, Messages};
 use bd_names::Path;
 use bd_plain::PlainTree;
 use bd_records::Record;
+use bd_scan::Scan;
 use bd_script::{Line, read_line};
 use std::alloc::Global;
 use std::test::Fail;
@@ -22,7 +23,7 @@ pub fn root_alone(alloc: Global) -> Result<Message, Fail> {
 }
 
 /// What a line's command is answered over a key map.
-pub fn answer<M: KeyMap>(alloc: Global, map: &mut M, line: &str) -> Result<Reply, Fail> {
+pub fn answer<M: Scan>(alloc: Global, map: &mut M, line: &str) -> Result<Reply, Fail> {
     match read_line(alloc, line.as_bytes()) {
         Ok(Line::Run(command)) => execute(alloc, map, &command),
         _ => Err(Fail::new("no command")),
@@ -51,7 +52,7 @@ pub fn stepped(alloc: Global, tree: &mut PlainTree, command: &Command) -> Result
 }
 
 /// Executes a command over a key map.
-fn execute<M: KeyMap>(alloc: Global, map: &mut M, command: &Command) -> Result<Reply, Fail> {
+fn execute<M: Scan>(alloc: Global, map: &mut M, command: &Command) -> Result<Reply, Fail> {
     if !command.writes() {
         return asked(alloc, map, command);
     }
@@ -62,7 +63,7 @@ fn execute<M: KeyMap>(alloc: Global, map: &mut M, command: &Command) -> Result<R
 }
 
 /// What a reading command is answered over a key map.
-fn asked<M: KeyMap>(alloc: Global, map: &mut M, command: &Command) -> Result<Reply, Fail> {
+fn asked<M: Scan>(alloc: Global, map: &mut M, command: &Command) -> Result<Reply, Fail> {
     match command {
         Command::Read { path, off, len } if *len <= MAX_READ => {
             Ok(read(alloc, map, path, *off, *len)?)
