@@ -1,4 +1,4 @@
-use Rattle.std.proofs.Common.{◌<◌, ◌≤◌, arith, length, List, subst, sym}
+use Rattle.std.proofs.Common.{◌≤◌, arith, length, List, subst, sym}
 use Rattle.bd_node.specs.declared.node.Entry.{Entry}
 use Rattle.bd_node.specs.Nodes.{entry_at}
 use Rattle.bd_query.specs.Stretches.{IsSomeRun}
