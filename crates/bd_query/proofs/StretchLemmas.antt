@@ -1,7 +1,7 @@
 -- What messages and edges say of a stretch of keys.
 use Rattle.std.proofs.Common.{◌≡◌, ℕ, zero, suc, ◌+◌, ◌<◌, ◌≤◌, true, false, not, cond, List, [], ◌∷◌, ◌++◌, length, take, drop, refl, sym, ap, subst, ◌∙◌, Option, None, Some, arith, inl, inr}
 use Rattle.std.specs.Prelude.{IsSome, IfSome, slice_get, count_by, ◌==◌}
-use Rattle.std.specs.List.{flat_map}
+use Rattle.std.specs.List.{AllByRecursion, flat_map}
 use Rattle.std.specs.Option.{unwrap_or}
 use Rattle.std.specs.Ordering.{is_lt}
 use Rattle.std.proofs.lemmas.Bool.{and_parts, and_from, cond-true, cases_lt}
@@ -21,6 +21,7 @@ use Rattle.bd_message.specs.Messages.{IsMessage}
 use Rattle.bd_message.specs.Effect.{NodesAt, same_key, begins, is_cut, rest, act, acts}
 use Rattle.bd_message.proofs.Finds.{same_key-true, begins-is, begins-append}
 use Rattle.bd_node.specs.declared.node.Edge.{Edge}
+use Rattle.bd_node.specs.declared.node.Entry.{Entry}
 use Rattle.bd_node.specs.declared.node.Node.{Node}
 use Rattle.bd_node.specs.declared.node.Node.TheVariants.{Inner}
 use Rattle.bd_node.specs.Touching.{touches, NoneTouches}
@@ -29,14 +30,15 @@ use Rattle.bd_node.specs.Shape.{end_before, EachEdge, SomeEdge, IsEdge, IsInner,
 use Rattle.bd_node.proofs.Edges.{not_less_lt}
 use Rattle.bd_node.proofs.LawLemmas.{edge_some, edge_only}
 use Rattle.bd_message.proofs.Prefixes.{rest-append}
-use Rattle.bd_node.proofs.Touched.{touched_first, below_longer}
+use Rattle.bd_node.proofs.Lookup.{each_weaker}
+use Rattle.bd_node.proofs.Touched.{touched_first, below_longer, least_back}
 use Rattle.bd_query.proofs.Parts.{acts_rest, named_more}
 use Rattle.bd_node.proofs.Shapes.{inner_rising}
 use Rattle.bd_node.proofs.Counted.{counted_first, counted_second, message_counted, edge_of_counted}
 use Rattle.bd_query.proofs.EndLemmas.{least_trans, begins_split, begins_joined, no_key_between, below_or_least, below_within, length-take}
 use Rattle.bd_query.specs.declared.stretch.Stretch.{Stretch}
-use Rattle.bd_query.specs.declared.stretch.Stretch.TheVariants.{Present, Next, Absent, Child}
-use Rattle.bd_query.specs.Stretches.{IsEnd, IsWithin, end_limit, gives_value, NoneFrom, IsNewest, IsWay, IsEmpty, IsAsked, IsStretch, EndsBy, AsksOneOf}
+use Rattle.bd_query.specs.declared.stretch.Stretch.TheVariants.{Present, Run, Absent, Child}
+use Rattle.bd_query.specs.Stretches.{IsEnd, IsWithin, end_limit, gives_value, NoneFrom, IsNewest, IsWay, IsEmpty, IsFirst, IsRun, IsAsked, IsStretch, EndsBy, AsksOneOf}
 
 pub if_both : {T E : Type 0} (P Q R : T → Type 0) (r : Result T E) → IfOk r P → IfOk r Q → ((x : T) → P x → Q x → R x) → IfOk r R
 if_both P Q R (Ok x) h i f = f x h i
@@ -161,24 +163,40 @@ newest_decides below ms k from place m first le there none =
 
 -- ---- stretches of what stands elsewhere
 
+-- what is, key by key, what something has whose first key this is has that first key
+first_from : (at : At) (lo key value : List ℕ) (end : Option (List ℕ)) → IsKey key → IsAtLeast key lo → IsBelowEnd key end
+    → ((k : List ℕ) → IsKey k → InRange lo end k → (f : At) × (at k ≡ f k) × IsFirst f lo key value) → IsFirst at lo key value
+first_from at lo key value end is_key on by each = record {
+  on = on;
+  empty = λ k is_k within.
+      let near = each k is_k (within.0, below_within k key end within.1 by) in
+      near.1 ∙ near.2.empty k is_k within;
+  has = (let here = each key is_key (on, by) in here.1 ∙ here.2.has);
+}
+
+-- and what is what something has whose first keys have these entries has them too
+run_from : (f at : At) (lo : List ℕ) (end : Option (List ℕ)) (es : List Entry) → AllByRecursion (λ (e : Entry). IsBelowEnd e.key end) es → IsRun f lo es
+    → ((k : List ℕ) → IsKey k → InRange lo end k → (g : At) × (at k ≡ g k) × IsRun g lo es) → IsRun at lo es
+run_from f at lo end [] by known each = tt
+run_from f at lo end (e ∷ es) by known each = (
+  known.0,
+  first_from at lo e.key e.value end known.0 known.1.on by.0 (λ k is_k within. (let here = each k is_k within in (here.0, here.1, here.2.1))),
+  run_from f at (e.key ++ 0 ∷ []) end es by.1 known.2
+      (λ k is_k within.
+      let after : IsAtLeast k e.key = least_trans k (e.key ++ 0 ∷ []) e.key within.0 (least_back e.key (e.key ++ 0 ∷ []) (below_longer e.key 0 [])) in
+      let here = each k is_k (least_trans k e.key lo after known.1.on, within.1) in
+      (here.0, here.1, here.2.2)),
+)
+
 -- what is, key by key, what something has of which all that is said holds that
 pub stretch_from : (below : NodesAt) (at : At) (lo : List ℕ) (end : Option (List ℕ)) (s : Stretch) → EndsBy end s → IsKey lo → IsBelowEnd lo end
     → ((k : List ℕ) → IsKey k → InRange lo end k → (f : At) × (at k ≡ f k) × IsStretch below f lo s) → IsStretch below at lo s
 stretch_from below at lo end (Present part) by is_lo above each =
     let here = each lo is_lo (not_below_itself lo, above) in
     (subst (λ (o : Option (List ℕ)). IsSome o) (sym here.1) here.2.0, here.1 ∙ here.2.1)
-stretch_from below at lo end (Next key value) by is_lo above each =
-    let first = (each lo is_lo (not_below_itself lo, above)).2 in
-    let here = each key first.0 (first.1.on, by) in (
-      first.0,
-      record {
-        on = first.1.on;
-        empty = λ k is_k within.
-            let near = each k is_k (within.0, below_within k key end within.1 by) in
-            near.1 ∙ near.2.1.empty k is_k within;
-        has = here.1 ∙ here.2.1.has;
-      },
-    )
+stretch_from below at lo end (Run entries) by is_lo above each =
+    let here = each lo is_lo (not_below_itself lo, above) in
+    (here.2.0, run_from here.0 at lo end entries by here.2.1 (λ k is_k within. (let there = each k is_k within in (there.0, there.1, there.2.1))))
 stretch_from below at lo end (Absent e) by is_lo above each = λ k is_k within.
     let here = each k is_k (within.0, by k within.1) in
     here.1 ∙ here.2 k is_k within
@@ -215,7 +233,7 @@ through_edge below e ms lo end s newest seen by is_lo above said =
 
 pub ends_within : (new end : Option (List ℕ)) (s : Stretch) → IsWithin new end → EndsBy new s → EndsBy end s
 ends_within new end (Present part) h by = tt
-ends_within new end (Next key value) h by = h key by
+ends_within new end (Run entries) h by = each_weaker (λ (e : Entry). IsBelowEnd e.key new) (λ (e : Entry). IsBelowEnd e.key end) (λ e below. h e.key below) entries by
 ends_within new end (Absent e) h by = λ k below. h k (by k below)
 ends_within new end (Child e child lift source) h by = λ k below. h k (by k below)
 
@@ -341,7 +359,7 @@ counted_front c xs ys zs le = omega (arith, sum_by-append (λ (x : ℕ). cond (x
 
 pub asks_more : (xs ys : List ℕ) (s : Stretch) → ((c : ℕ) → count_by (λ name. name == c) xs ≤ count_by (λ name. name == c) ys) → AsksOneOf xs s → AsksOneOf ys s
 asks_more xs ys (Present part) more h = named_more xs ys part.base more h
-asks_more xs ys (Next key value) more h = tt
+asks_more xs ys (Run entries) more h = tt
 asks_more xs ys (Absent end) more h = tt
 asks_more xs ys (Child end child lift source) more h = (let m : count_by (λ name. name == child) xs ≤ count_by (λ name. name == child) ys = more child in omega arith)
 

@@ -14,7 +14,7 @@ use Rattle.bd_query.proofs.stretch.stretch_of.Goals as goal
 pub through-requires-clause-edge : goal.through-requires-clause-edge
 through-requires-clause-edge c =
     let at_place : IsPlaced c.in-Inner.level c.in-Inner.edges c.in-Inner.buffer c.args.key.now c.edge_place-place.result c.index-edges-place.result =
-    placed c.args.node.now c.in-Inner.level c.in-Inner.edges c.as_slice-edges.result.now c.in-Inner.buffer c.args.key.now c.edge_place-place.result c.index-edges-place.result c.requires c.in-Inner.is c.as_slice-edges.ensures c.edge_place-place.ensures.edge c.edge_place-place.ensures.within c.index-edges-place.is in
+    placed c.args.node.now c.in-Inner.level c.in-Inner.edges c.as_slice-edges.result.now c.in-Inner.buffer c.args.key.now c.edge_place-place.result c.index-edges-place.result c.requires.shape c.in-Inner.is c.as_slice-edges.ensures c.edge_place-place.ensures.edge c.edge_place-place.ensures.within c.index-edges-place.is in
     let end : end_before (drop (c.edge_place-place.result + 1) c.in-Inner.edges) ≡ c.in_ok-end-in-Inner.end =
     ap (λ (es : List Edge). end_before (drop (c.edge_place-place.result + 1) es)) (sym c.as_slice-edges.ensures) ∙ sym c.end_of.ensures ∙ sym c.in_ok-end-in-Inner.ensures in
     subst (λ (e : Option (List ℕ)). IsWay c.index-edges-place.result c.args.key.now e) end
@@ -23,13 +23,13 @@ through-requires-clause-edge c =
 pub through-requires-clause-seen : goal.through-requires-clause-seen
 through-requires-clause-seen c =
     let at_place : IsPlaced c.in-Inner.level c.in-Inner.edges c.in-Inner.buffer c.args.key.now c.edge_place-place.result c.index-edges-place.result =
-    placed c.args.node.now c.in-Inner.level c.in-Inner.edges c.as_slice-edges.result.now c.in-Inner.buffer c.args.key.now c.edge_place-place.result c.index-edges-place.result c.requires c.in-Inner.is c.as_slice-edges.ensures c.edge_place-place.ensures.edge c.edge_place-place.ensures.within c.index-edges-place.is in
+    placed c.args.node.now c.in-Inner.level c.in-Inner.edges c.as_slice-edges.result.now c.in-Inner.buffer c.args.key.now c.edge_place-place.result c.index-edges-place.result c.requires.shape c.in-Inner.is c.as_slice-edges.ensures c.edge_place-place.ensures.edge c.edge_place-place.ensures.within c.index-edges-place.is in
     placed_seen c.in-Inner.level c.in-Inner.edges c.in-Inner.buffer c.args.key.now c.edge_place-place.result c.index-edges-place.result at_place
 
 pub through-requires-clause-end : goal.through-requires-clause-end
 through-requires-clause-end c =
     let at_place : IsPlaced c.in-Inner.level c.in-Inner.edges c.in-Inner.buffer c.args.key.now c.edge_place-place.result c.index-edges-place.result =
-    placed c.args.node.now c.in-Inner.level c.in-Inner.edges c.as_slice-edges.result.now c.in-Inner.buffer c.args.key.now c.edge_place-place.result c.index-edges-place.result c.requires c.in-Inner.is c.as_slice-edges.ensures c.edge_place-place.ensures.edge c.edge_place-place.ensures.within c.index-edges-place.is in
+    placed c.args.node.now c.in-Inner.level c.in-Inner.edges c.as_slice-edges.result.now c.in-Inner.buffer c.args.key.now c.edge_place-place.result c.index-edges-place.result c.requires.shape c.in-Inner.is c.as_slice-edges.ensures c.edge_place-place.ensures.edge c.edge_place-place.ensures.within c.index-edges-place.is in
     let end : end_before (drop (c.edge_place-place.result + 1) c.in-Inner.edges) ≡ c.in_ok-end-in-Inner.end =
     ap (λ (es : List Edge). end_before (drop (c.edge_place-place.result + 1) es)) (sym c.as_slice-edges.ensures) ∙ sym c.end_of.ensures ∙ sym c.in_ok-end-in-Inner.ensures in
     subst (λ (e : Option (List ℕ)). IsEnd c.args.key.now end_limit e) end
@@ -44,7 +44,7 @@ returns-in-Leaf-clause-stretch c =
 pub returns-in_ok-end-in-Inner-clause-stretch : goal.returns-in_ok-end-in-Inner-clause-stretch
 returns-in_ok-end-in-Inner-clause-stretch c =
     let at_place : IsPlaced c.in-Inner.level c.in-Inner.edges c.in-Inner.buffer c.args.key.now c.edge_place-place.result c.index-edges-place.result =
-    placed c.args.node.now c.in-Inner.level c.in-Inner.edges c.as_slice-edges.result.now c.in-Inner.buffer c.args.key.now c.edge_place-place.result c.index-edges-place.result c.requires c.in-Inner.is c.as_slice-edges.ensures c.edge_place-place.ensures.edge c.edge_place-place.ensures.within c.index-edges-place.is in
+    placed c.args.node.now c.in-Inner.level c.in-Inner.edges c.as_slice-edges.result.now c.in-Inner.buffer c.args.key.now c.edge_place-place.result c.index-edges-place.result c.requires.shape c.in-Inner.is c.as_slice-edges.ensures c.edge_place-place.ensures.edge c.edge_place-place.ensures.within c.index-edges-place.is in
     let end : end_before (drop (c.edge_place-place.result + 1) c.in-Inner.edges) ≡ c.in_ok-end-in-Inner.end =
     ap (λ (es : List Edge). end_before (drop (c.edge_place-place.result + 1) es)) (sym c.as_slice-edges.ensures) ∙ sym c.end_of.ensures ∙ sym c.in_ok-end-in-Inner.ensures in
     if_both _ _ (λ (s : Stretch). (below : NodesAt) → IsStretch below (node_at below c.args.node.now) c.args.key.now s) c.through.result c.through.ensures.stretch c.through.ensures.within
@@ -57,7 +57,7 @@ returns-in_ok-end-in-Inner-clause-stretch c =
 pub returns-in_ok-end-in-Inner-clause-named : goal.returns-in_ok-end-in-Inner-clause-named
 returns-in_ok-end-in-Inner-clause-named c =
     let at_place : IsPlaced c.in-Inner.level c.in-Inner.edges c.in-Inner.buffer c.args.key.now c.edge_place-place.result c.index-edges-place.result =
-    placed c.args.node.now c.in-Inner.level c.in-Inner.edges c.as_slice-edges.result.now c.in-Inner.buffer c.args.key.now c.edge_place-place.result c.index-edges-place.result c.requires c.in-Inner.is c.as_slice-edges.ensures c.edge_place-place.ensures.edge c.edge_place-place.ensures.within c.index-edges-place.is in
+    placed c.args.node.now c.in-Inner.level c.in-Inner.edges c.as_slice-edges.result.now c.in-Inner.buffer c.args.key.now c.edge_place-place.result c.index-edges-place.result c.requires.shape c.in-Inner.is c.as_slice-edges.ensures c.edge_place-place.ensures.edge c.edge_place-place.ensures.within c.index-edges-place.is in
     IfOk-weaker c.through.result _ _ (λ (s : Stretch) h.
     subst (λ (n : Node). AsksOneOf (names n) s) (sym c.in-Inner.is)
     (asks_of_node c.in-Inner.edges c.in-Inner.buffer c.args.key.now c.index-edges-place.result s (sym at_place.edge ∙ at_place.there)
