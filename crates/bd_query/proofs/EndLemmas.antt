@@ -87,7 +87,7 @@ length-take (suc n) [] h = absurd (omega arith)
 length-take (suc n) (a ∷ k) h = ap suc (length-take n k (omega arith))
 
 -- a key that doesn't begin with a prefix, above one that does, is above all that do
-above_prefix : (q s t e : List ℕ) → IsBelow (q ++ s) e → (Begins e q → ⊥) → IsBelow (q ++ t) e
+pub above_prefix : (q s t e : List ℕ) → IsBelow (q ++ s) e → (Begins e q → ⊥) → IsBelow (q ++ t) e
 above_prefix [] s t e below other = absurd (other refl)
 above_prefix (a ∷ q) s t [] below other = absurd (not_below_nil (a ∷ (q ++ s)) below)
 above_prefix (a ∷ q) s t (b ∷ e) below other =
@@ -151,7 +151,7 @@ end_inside p s t source e h = (
   key_cmp-front source t e ∙ sym (key_cmp-front p t e) ∙ h.1,
 )
 
-least_inside : (p s t source : List ℕ) → IsAtLeast (p ++ t) (p ++ s) → IsAtLeast (source ++ t) (source ++ s)
+pub least_inside : (p s t source : List ℕ) → IsAtLeast (p ++ t) (p ++ s) → IsAtLeast (source ++ t) (source ++ s)
 least_inside p s t source h less = h (key_cmp-front p t s ∙ sym (key_cmp-front source t s) ∙ less)
 
 -- what an end below says above: with the same rest where it begins with the source, and else nothing
@@ -176,11 +176,6 @@ raised_inside p s t source most (Some _) None (past_all e other) h within = (lea
 raised_inside p s t source most None (Some _) x7 h within = elim x7 [ ]
 raised_inside p s t source most None None no_end h within = (least_inside p s t source within.0, tt)
 
--- an end that is raised is that end, translated
-pub raised_same : (p source : List ℕ) (end : Option (List ℕ)) (new : List ℕ) → IsRaised p source end (Some new) → end ≡ Some (source ++ drop (length p) new)
-raised_same p source (Some _) _ (same_rest e) = ap (λ (x : List ℕ). Some (source ++ x)) (sym (drop_joined p e))
-raised_same p source None _ x = elim x [ ]
-
 -- the same of keys that are cut and not joined
 pub end_above_end : (key source : List ℕ) (lift most : ℕ) (end new : Option (List ℕ)) → lift ≤ length key → IsRaised (take lift key) source end new → IsEnd (source ++ drop lift key) most end → IsEnd key (lift + most) new
 end_above_end key source lift most end new long raised h =
@@ -193,10 +188,6 @@ end_above_inside key source lift most end new k long raised h begins within =
     let split : k ≡ take lift key ++ drop lift k = begins_split k (take lift key) begins ∙ ap (λ (n : ℕ). take lift key ++ drop n k) (length-take lift key long) in
     raised_inside (take lift key) (drop lift key) (drop lift k) source most end new raised h
     (subst (λ (l : List ℕ). InRange l new (take lift key ++ drop lift k)) (sym (take-append-drop lift key)) (subst (λ (l : List ℕ). InRange key new l) split within))
-
-pub end_above_same : (key source : List ℕ) (lift : ℕ) (end : Option (List ℕ)) (new : List ℕ) → lift ≤ length key → IsRaised (take lift key) source end (Some new) → end ≡ Some (source ++ drop lift new)
-end_above_same key source lift end new long raised =
-    subst (λ (n : ℕ). end ≡ Some (source ++ drop n new)) (length-take lift key long) (raised_same (take lift key) source end new raised)
 
 -- ---- the lesser of two ends
 

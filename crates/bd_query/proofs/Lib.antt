@@ -4,6 +4,7 @@ pub mod EndLemmas
 pub mod LeafLemmas
 pub mod StretchLemmas
 pub mod TurnLemmas
+pub mod RunLemmas
 pub mod SearchLemmas
 pub mod AskLemmas
 pub mod NewestLemmas

@@ -1,11 +1,13 @@
 -- What turns find.
 use Rattle.std.proofs.Common.{◌≡◌, ℕ, ◌+◌, ◌<◌, ◌≤◌, List, [], ◌∷◌, ◌++◌, take, drop, ◌∙◌, Option, None, Some, arith}
 use Rattle.std.specs.Prelude.{◌⊎◌, ◌↔◌}
+use Rattle.std.specs.List.{AllByRecursion}
 use Rattle.bd_limits.specs.Limits.{key_limit}
 use Rattle.bd_keys.specs.Keys.{IsKey, IsBelowEnd, InRange, Begins}
 use Rattle.bd_keys.proofs.Order.{not_below_itself, IsKey-rest, IsKey-cons, IsKey-drop}
 use Rattle.bd_message.specs.KeyMaps.{At}
 use Rattle.bd_message.specs.Effect.{NodesAt}
+use Rattle.bd_node.specs.declared.node.Entry.{Entry}
 use Rattle.bd_node.specs.declared.node.Node.{Node}
 use Rattle.bd_node.specs.Nodes.{names, node_at}
 use Rattle.bd_node.specs.Meaning.{Nodes, at}
@@ -14,10 +16,10 @@ use Rattle.bd_node.proofs.Lookup.{named_has}
 use Rattle.bd_node.proofs.Sound.{sound-levelled}
 use Rattle.bd_node.proofs.LawLemmas.{keys_meet}
 use Rattle.bd_query.specs.declared.stretch.Stretch.{Stretch}
-use Rattle.bd_query.specs.declared.stretch.Stretch.TheVariants.{Present, Next, Absent, Child}
+use Rattle.bd_query.specs.declared.stretch.Stretch.TheVariants.{Present, Run, Absent, Child}
 use Rattle.bd_query.specs.declared.turns.Turn.{Turn}
-use Rattle.bd_query.specs.declared.turns.Turn.TheVariants.{Found, Next, Passed}
-use Rattle.bd_query.specs.Stretches.{IsEnd, end_limit, way_limit, IsEmpty, IsAsked, IsStretch, AsksOneOf, AsksLower, PassesTo}
+use Rattle.bd_query.specs.declared.turns.Turn.TheVariants.{Found, Run, Passed}
+use Rattle.bd_query.specs.Stretches.{IsEnd, end_limit, way_limit, IsEmpty, IsAsked, IsStretch, EndsBy, AsksOneOf, AsksLower, PassesTo}
 use Rattle.bd_query.proofs.Going.{lower_base}
 use Rattle.bd_query.proofs.EndLemmas.{lesser_end, end_weaker}
 use Rattle.bd_query.proofs.StretchLemmas.{stretch_from}
@@ -33,14 +35,18 @@ IsKey-append (x ∷ a) b is_a is_b = IsKey-cons x (a ++ b) (is_a 0) (IsKey-appen
 -- what a node asks is kept and of a lower level
 pub asks_lower : (t : Table) (level : ℕ) (n : Node) (s : Stretch) → IsNodeOf t level n → AsksOneOf (names n) s → AsksLower t level s
 asks_lower t level n (Present part) own h = lower_base t level n part.base own h
-asks_lower t level n (Next key value) own h = tt
+asks_lower t level n (Run entries) own h = tt
 asks_lower t level n (Absent end) own h = tt
 asks_lower t level n (Child end child lift source) own h = named_has (IsLower t level) child (names n) own.lower h
 
 -- no stretch ends after all keys
-ends_nowhere : (s : Stretch) → Rattle.bd_query.specs.Stretches.EndsBy None s
+each_anywhere : (es : List Entry) → AllByRecursion (λ (e : Entry). IsBelowEnd e.key None) es
+each_anywhere [] = tt
+each_anywhere (e ∷ es) = (tt, each_anywhere es)
+
+ends_nowhere : (s : Stretch) → EndsBy None s
 ends_nowhere (Present part) = tt
-ends_nowhere (Next key value) = tt
+ends_nowhere (Run entries) = each_anywhere entries
 ends_nowhere (Absent end) = λ k below. tt
 ends_nowhere (Child end child lift source) = λ k below. tt
 
@@ -84,7 +90,7 @@ raised_found key source value lift end at child is_key above asked found = (aske
 
 pub passes_weaker : (key : List ℕ) (few more : ℕ) (turn : Turn) → few ≤ more → PassesTo key few turn → PassesTo key more turn
 passes_weaker key few more (Found value) le h = tt
-passes_weaker key few more (Next next value) le h = end_weaker key few more (Some next) le h
+passes_weaker key few more (Run entries) le h = tt
 passes_weaker key few more (Passed end) le h = end_weaker key few more end le h
 
 -- one level more

@@ -29,7 +29,7 @@ returns-in_ok-value-in-Present-clause-turn g t c known sound =
     subst (λ (n : Nodes). IsSound n (g.S.NodeStore.table c.stretch_at.new.store)) (sym same) (subst (λ (u : Table). IsSound nodes u) (sym c.in_ok-stretch.ensures.left.table) sound) in
     let said : IsStretch (at nodes) (at nodes c.args.id) c.args.key.now (Present c.in-Present.part) =
     subst (λ (s : Stretch). IsStretch (at nodes) (at nodes c.args.id) c.args.key.now s) c.in-Present.is
-    (node_says nodes (g.S.NodeStore.table c.args.store.now) c.args.id c.args.key.now c.in_ok-stretch.stretch sound c.requires (λ i. omega (arith, c.type_inv.key i)) (c.in_ok-stretch.ensures.stretch known)) in
+    (node_says nodes (g.S.NodeStore.table c.args.store.now) c.args.id c.args.key.now c.in_ok-stretch.stretch sound c.requires.kept (λ i. omega (arith, c.type_inv.key i)) (c.in_ok-stretch.ensures.stretch known)) in
     said.1
     ∙ subst (λ (n : Nodes). IsSome (part_at (at n) c.in-Present.part) → part_at (at n) c.in-Present.part ≡ Some c.in_ok-value-in-Present.value) same
     (c.in_ok-value-in-Present.ensures.value (c.in_ok-stretch.ensures.left.known known) still) (subst (λ (o : Option (List ℕ)). IsSome o) said.1 said.0)
@@ -56,7 +56,7 @@ pub returns-in-Absent-clause-turn : goal.returns-in-Absent-clause-turn
 returns-in-Absent-clause-turn g t c known sound =
     let nodes : Nodes = g.S.NodeStore.nodes c.args.store.now in
     subst (λ (s : Stretch). IsStretch (at nodes) (at nodes c.args.id) c.args.key.now s) c.in-Absent.is
-    (node_says nodes (g.S.NodeStore.table c.args.store.now) c.args.id c.args.key.now c.in_ok-stretch.stretch sound c.requires (λ i. omega (arith, c.type_inv.key i)) (c.in_ok-stretch.ensures.stretch known))
+    (node_says nodes (g.S.NodeStore.table c.args.store.now) c.args.id c.args.key.now c.in_ok-stretch.stretch sound c.requires.kept (λ i. omega (arith, c.type_inv.key i)) (c.in_ok-stretch.ensures.stretch known))
 
 pub returns-in_ok-turn-in-Child-2-clause-turn : goal.returns-in_ok-turn-in-Child-2-clause-turn
 returns-in_ok-turn-in-Child-2-clause-turn g t c known sound =
@@ -72,7 +72,7 @@ returns-in_ok-turn-in-Child-2-clause-turn g t c known sound =
     (at nodes c.args.id) (at nodes c.in-Child.child)
     (subst (λ (l : List ℕ). IsAsked (at nodes c.args.id) (at nodes c.in-Child.child) c.args.key.now c.in-Child.end c.in-Child.lift l) (sym source)
     (subst (λ (s : Stretch). IsStretch (at nodes) (at nodes c.args.id) c.args.key.now s) c.in-Child.is
-    (node_says nodes (g.S.NodeStore.table c.args.store.now) c.args.id c.args.key.now c.in_ok-stretch.stretch sound c.requires (λ i. omega (arith, c.type_inv.key i)) (c.in_ok-stretch.ensures.stretch known))))
+    (node_says nodes (g.S.NodeStore.table c.args.store.now) c.args.id c.args.key.now c.in_ok-stretch.stretch sound c.requires.kept (λ i. omega (arith, c.type_inv.key i)) (c.in_ok-stretch.ensures.stretch known))))
     (subst (λ (k : List ℕ). IsTurn (at nodes c.in-Child.child) k c.in_ok-turn-in-Child.turn) asked
     (subst (λ (n : Nodes). IsTurn (at n c.in-Child.child) c.as_slice-in-Child.result.now c.in_ok-turn-in-Child.turn) same
     (c.in_ok-turn-in-Child.ensures.turn (c.in_ok-stretch.ensures.left.known known) still)))
@@ -104,14 +104,14 @@ returns-in_ok-value-in-Present-clause-way g t c known sound =
     let same : g.S.NodeStore.nodes c.stretch_at.new.store ≡ nodes = c.in_ok-stretch.ensures.left.kept known in
     let still : IsSound (g.S.NodeStore.nodes c.stretch_at.new.store) (g.S.NodeStore.table c.stretch_at.new.store) =
     subst (λ (n : Nodes). IsSound n (g.S.NodeStore.table c.stretch_at.new.store)) (sym same) (subst (λ (u : Table). IsSound nodes u) (sym c.in_ok-stretch.ensures.left.table) sound) in
-    way_with_rest nodes (g.S.NodeStore.table c.args.store.now) c.args.id c.args.key.now (asked_of c.in-Present.part.base) (g.S.NodeStore.visit_count c.args.store.now) (g.S.NodeStore.visit_count c.stretch_at.new.store) (g.S.NodeStore.visit_count c.value_of.new.store) sound c.requires
+    way_with_rest nodes (g.S.NodeStore.table c.args.store.now) c.args.id c.args.key.now (asked_of c.in-Present.part.base) (g.S.NodeStore.visit_count c.args.store.now) (g.S.NodeStore.visit_count c.stretch_at.new.store) (g.S.NodeStore.visit_count c.value_of.new.store) sound c.requires.kept
     (λ n there. c.in_ok-stretch.ensures.asks known n there ∙ ap (λ (s : Stretch). asked_in s c.args.key.now) c.in-Present.is) c.in_ok-stretch.ensures.visits
     (subst (λ (n : Nodes). AreVisitsOfRest n (asked_of c.in-Present.part.base) (g.S.NodeStore.visit_count c.stretch_at.new.store) (g.S.NodeStore.visit_count c.value_of.new.store)) same
     (c.in_ok-value-in-Present.ensures.way (c.in_ok-stretch.ensures.left.known known) still))
 
 pub returns-in-Absent-clause-way : goal.returns-in-Absent-clause-way
 returns-in-Absent-clause-way g t c known sound =
-    way_ends (g.S.NodeStore.nodes c.args.store.now) (g.S.NodeStore.table c.args.store.now) c.args.id c.args.key.now (g.S.NodeStore.visit_count c.args.store.now) (g.S.NodeStore.visit_count c.stretch_at.new.store) sound c.requires
+    way_ends (g.S.NodeStore.nodes c.args.store.now) (g.S.NodeStore.table c.args.store.now) c.args.id c.args.key.now (g.S.NodeStore.visit_count c.args.store.now) (g.S.NodeStore.visit_count c.stretch_at.new.store) sound c.requires.kept
     (λ n there. c.in_ok-stretch.ensures.asks known n there ∙ ap (λ (s : Stretch). asked_in s c.args.key.now) c.in-Absent.is) c.in_ok-stretch.ensures.visits
 
 pub returns-in_ok-turn-in-Child-2-clause-way : goal.returns-in_ok-turn-in-Child-2-clause-way
@@ -122,19 +122,19 @@ returns-in_ok-turn-in-Child-2-clause-way g t c known sound =
     subst (λ (n : Nodes). IsSound n (g.S.NodeStore.table c.stretch_at.new.store)) (sym same) (subst (λ (u : Table). IsSound nodes u) (sym c.in_ok-stretch.ensures.left.table) sound) in
     let asked : c.as_slice-in-Child.result.now ≡ c.in-Child.source ++ drop c.in-Child.lift c.args.key.now =
     c.as_slice-in-Child.ensures ∙ c.in_ok-asked-in-Child.ensures ∙ ap (λ (l : List ℕ). l ++ c.tail.result.now) c.as_slice.ensures ∙ ap (λ (l : List ℕ). c.in-Child.source ++ l) c.tail.ensures in
-    way_goes_on nodes (g.S.NodeStore.table c.args.store.now) c.args.id c.in-Child.child c.args.key.now (c.in-Child.source ++ drop c.in-Child.lift c.args.key.now) (g.S.NodeStore.visit_count c.args.store.now) (g.S.NodeStore.visit_count c.stretch_at.new.store) (g.S.NodeStore.visit_count c.turn_at.new.store) sound c.requires
+    way_goes_on nodes (g.S.NodeStore.table c.args.store.now) c.args.id c.in-Child.child c.args.key.now (c.in-Child.source ++ drop c.in-Child.lift c.args.key.now) (g.S.NodeStore.visit_count c.args.store.now) (g.S.NodeStore.visit_count c.stretch_at.new.store) (g.S.NodeStore.visit_count c.turn_at.new.store) sound c.requires.kept
     (λ n there. c.in_ok-stretch.ensures.asks known n there ∙ ap (λ (s : Stretch). asked_in s c.args.key.now) c.in-Child.is) c.in_ok-stretch.ensures.visits
     (subst (λ (k : List ℕ). AreVisitsOfWay nodes c.in-Child.child k (g.S.NodeStore.visit_count c.stretch_at.new.store) (g.S.NodeStore.visit_count c.turn_at.new.store)) asked
     (subst (λ (n : Nodes). AreVisitsOfWay n c.in-Child.child c.as_slice-in-Child.result.now (g.S.NodeStore.visit_count c.stretch_at.new.store) (g.S.NodeStore.visit_count c.turn_at.new.store)) same
     (c.in_ok-turn-in-Child.ensures.way (c.in_ok-stretch.ensures.left.known known) still)))
 
-pub returns-in-Next-clause-turn : goal.returns-in-Next-clause-turn
-returns-in-Next-clause-turn g t c known sound =
+pub returns-in-Run-clause-turn : goal.returns-in-Run-clause-turn
+returns-in-Run-clause-turn g t c known sound =
     let nodes : Nodes = g.S.NodeStore.nodes c.args.store.now in
-    (subst (λ (s : Stretch). IsStretch (at nodes) (at nodes c.args.id) c.args.key.now s) c.in-Next.is
-    (node_says nodes (g.S.NodeStore.table c.args.store.now) c.args.id c.args.key.now c.in_ok-stretch.stretch sound c.requires (λ i. omega (arith, c.type_inv.key i)) (c.in_ok-stretch.ensures.stretch known))).1
+    subst (λ (s : Stretch). IsStretch (at nodes) (at nodes c.args.id) c.args.key.now s) c.in-Run.is
+    (node_says nodes (g.S.NodeStore.table c.args.store.now) c.args.id c.args.key.now c.in_ok-stretch.stretch sound c.requires.kept (λ i. omega (arith, c.type_inv.key i)) (c.in_ok-stretch.ensures.stretch known))
 
-pub returns-in-Next-clause-way : goal.returns-in-Next-clause-way
-returns-in-Next-clause-way g t c known sound =
-    way_ends (g.S.NodeStore.nodes c.args.store.now) (g.S.NodeStore.table c.args.store.now) c.args.id c.args.key.now (g.S.NodeStore.visit_count c.args.store.now) (g.S.NodeStore.visit_count c.stretch_at.new.store) sound c.requires
-    (λ n there. c.in_ok-stretch.ensures.asks known n there ∙ ap (λ (s : Stretch). asked_in s c.args.key.now) c.in-Next.is) c.in_ok-stretch.ensures.visits
+pub returns-in-Run-clause-way : goal.returns-in-Run-clause-way
+returns-in-Run-clause-way g t c known sound =
+    way_ends (g.S.NodeStore.nodes c.args.store.now) (g.S.NodeStore.table c.args.store.now) c.args.id c.args.key.now (g.S.NodeStore.visit_count c.args.store.now) (g.S.NodeStore.visit_count c.stretch_at.new.store) sound c.requires.kept
+    (λ n there. c.in_ok-stretch.ensures.asks known n there ∙ ap (λ (s : Stretch). asked_in s c.args.key.now) c.in-Run.is) c.in_ok-stretch.ensures.visits

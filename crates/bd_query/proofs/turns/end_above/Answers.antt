@@ -34,15 +34,3 @@ returns-clause-inside c most h k begins within =
     (subst (λ (e : Option (List ℕ)). IsRaised (take c.args.lift c.args.key.now) c.args.source.now e None) (sym c.in-Some.is)
     (past_all c.in-Some.end (λ starts. not_both (c.starts.ensures.1 (subst (λ (l : List ℕ). Begins l c.args.source.now) (sym c.as_slice.ensures) starts)) c.if-starts.false))) h begins within
 
-pub returns-then-starts-clause-same : goal.returns-then-starts-clause-same
-returns-then-starts-clause-same c k is =
-    let here : c.in_ok-raised.raised ≡ k = same_Some c.in_ok-raised.raised k is in (
-      subst (λ (l : List ℕ). IsKey l) (c.as_slice-then-starts-2.ensures ∙ here) c.bytes_of-bytes.ensures.bytes,
-      subst (λ (l : List ℕ). c.args.end ≡ Some (c.args.source.now ++ drop c.args.lift l)) here
-          (end_above_same c.args.key.now c.args.source.now c.args.lift c.args.end c.in_ok-raised.raised c.requires
-          (subst (λ (e : Option (List ℕ)). IsRaised (take c.args.lift c.args.key.now) c.args.source.now e (Some c.in_ok-raised.raised)) (sym c.in-Some.is)
-          (raised_here (take c.args.lift c.args.key.now) c.args.source.now c.in-Some.end c.in_ok-raised.raised
-          (subst (λ (l : List ℕ). Begins l c.args.source.now) c.as_slice.ensures (c.starts.ensures.0 c.if-starts.true))
-          (c.in_ok-raised.ensures ∙ ap (λ (l : List ℕ). l ++ c.tail-rest.result.now) c.front.ensures
-          ∙ ap (λ (l : List ℕ). take c.args.lift c.args.key.now ++ l) (c.tail-rest.ensures ∙ ap (λ (l : List ℕ). drop (length c.args.source.now) l) c.as_slice-then-starts.ensures))))),
-    )

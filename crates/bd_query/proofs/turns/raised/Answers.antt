@@ -1,4 +1,4 @@
-use Rattle.std.proofs.Common.{◌+◌, ◌≤◌, ◌++◌, sym, ap, subst, ◌∙◌, arith, drop, ℕ, List, Option, Some}
+use Rattle.std.proofs.Common.{◌≡◌, ◌+◌, ◌≤◌, ◌++◌, sym, ap, subst, ◌∙◌, arith, drop, ℕ, List, Option, Some}
 use Rattle.bd_query.specs.declared.turns.Turn.{Turn}
 use Rattle.std.proofs.lemmas.Option.{same_Some}
 use Rattle.bd_limits.specs.Limits.{key_limit}
@@ -6,6 +6,8 @@ use Rattle.bd_keys.proofs.Order.{IsKey-drop}
 use Rattle.bd_node.proofs.Touched.{least_back}
 use Rattle.bd_query.specs.Stretches.{IsEnd, IsFirst, IsTurn, PassesTo, end_limit}
 use Rattle.bd_query.proofs.EndLemmas.{end_weaker}
+use Rattle.bd_query.specs.Runs.{raised_run}
+use Rattle.bd_query.proofs.RunLemmas.{raised_turn}
 use Rattle.bd_query.proofs.TurnLemmas.{IsKey-append, raised_empty, raised_found}
 use Rattle.bd_query.proofs.turns.raised.Goals as goal
 
@@ -30,25 +32,10 @@ returns-in_ok-below-in-Passed-clause-turn c most passes at child asked empty =
       one = c.lesser-end.ensures.one;
     }) asked (subst (λ (t : Turn). IsTurn child (c.args.source.now ++ drop c.args.lift c.args.key.now) t) c.in-Passed.is empty)
 
-pub returns-in_ok-next-in-Next-clause-turn : goal.returns-in_ok-next-in-Next-clause-turn
-returns-in_ok-next-in-Next-clause-turn c most passes at child asked found =
-    let passed : IsEnd (c.args.source.now ++ drop c.args.lift c.args.key.now) most (Some c.in-Next.below) = subst (λ (t : Turn). PassesTo (c.args.source.now ++ drop c.args.lift c.args.key.now) most t) c.in-Next.is passes in
-    let first : IsFirst child (c.args.source.now ++ drop c.args.lift c.args.key.now) c.in-Next.below c.in-Next.value = subst (λ (t : Turn). IsTurn child (c.args.source.now ++ drop c.args.lift c.args.key.now) t) c.in-Next.is found in
-    c.next_before.ensures.turn at c.args.key.now
-    (λ k is_k within before.
-    let said = asked k is_k within in
-    said.1 ∙ first.empty (c.args.source.now ++ drop c.args.lift k) (IsKey-append c.args.source.now (drop c.args.lift k) (λ i. omega (arith, c.type_inv.source i)) (IsKey-drop c.args.lift k is_k))
-    (c.in_ok-next-in-Next.ensures.inside most passed k said.0 (within.0, before)))
-    (λ k is before.
-    let same = c.in_ok-next-in-Next.ensures.same k is in
-    let raised : IsEnd c.args.key.now (c.args.lift + most) (Some k) = subst (λ (e : Option (List ℕ)). IsEnd c.args.key.now (c.args.lift + most) e) is (c.in_ok-next-in-Next.ensures.end most passed) in (
-      least_back c.args.key.now k raised.above,
-      (asked k same.0 (least_back c.args.key.now k raised.above, before)).1 ∙ sym (ap child (same_Some c.in-Next.below (c.args.source.now ++ drop c.args.lift k) same.1)) ∙ first.has,
-    ))
 
-pub returns-in_ok-next-in-Next-clause-passes : goal.returns-in_ok-next-in-Next-clause-passes
-returns-in_ok-next-in-Next-clause-passes c most passes =
-    let passed : IsEnd (c.args.source.now ++ drop c.args.lift c.args.key.now) most (Some c.in-Next.below) = subst (λ (t : Turn). PassesTo (c.args.source.now ++ drop c.args.lift c.args.key.now) most t) c.in-Next.is passes in
-    c.next_before.ensures.passes c.args.key.now (end_limit + most)
-    (end_weaker c.args.key.now (c.args.lift + most) (end_limit + most) c.in_ok-next-in-Next.next (let f : c.args.lift ≤ key_limit = c.requires.few in omega arith) (c.in_ok-next-in-Next.ensures.end most passed))
-    (end_weaker c.args.key.now end_limit (end_limit + most) c.args.end (omega arith) c.requires.end)
+pub returns-in_ok-run-in-Run-clause-turn : goal.returns-in_ok-run-in-Run-clause-turn
+returns-in_ok-run-in-Run-clause-turn c most passes at child asked found =
+    raised_turn at child c.args.key.now c.args.source.now c.args.end c.args.lift c.in-Run.entries c.in_ok-run-in-Run.run' c.run_or_end.result asked c.requires.long (λ i. omega (arith, c.type_inv.source i))
+    (subst (λ (t : Turn). IsTurn child (c.args.source.now ++ drop c.args.lift c.args.key.now) t) c.in-Run.is found)
+    (subst (λ (l : List ℕ). c.in_ok-run-in-Run.run' ≡ raised_run c.args.end l c.args.source.now c.in-Run.entries) c.front.ensures c.in_ok-run-in-Run.ensures.run) c.in_ok-run-in-Run.ensures.keys
+    (record { some = c.run_or_end.ensures.some; none = c.run_or_end.ensures.none; })
