@@ -1,7 +1,5 @@
-use Rattle.std.proofs.Common.{◌≡◌, ℕ, ◌+◌, ◌++◌, ◌∷◌, [], ◌≤◌, true, false, List, length, length-append, subst, refl, sym, ap, ◌∙◌, arith}
+use Rattle.std.proofs.Common.{◌≡◌, ℕ, ◌+◌, ◌++◌, ◌∷◌, [], ◌≤◌, true, false, List, length, length-append, subst, refl, sym, ap, ◌∙◌, arith, rules}
 use Rattle.std.specs.Prelude.{Some, None, IsSome}
-use Rattle.std.specs.declared.vec.Vec.{Vec}
-use Rattle.bd_command.specs.declared.reply.Listed.{Listed}
 use Rattle.bd_model.specs.Step.{children, those_after}
 use Rattle.bd_dirs.specs.Listings.{first_of, key_after}
 use Rattle.bd_dirs.proofs.Children.{none_there}
@@ -51,8 +49,8 @@ pub loop-each-preserved : goal.loop-each-preserved
 loop-each-preserved c =
     elim c.match-branch-2.branch [
       | in-Some-2+in_ok-from-in-Some-2+in_ok-push-in-Some-2 w ↦ record {
-        few = λ _. subst (λ (v : Vec Listed). length v.items ≤ listing_limit) (sym w.names-is) (omega (arith, ap length w.in_ok-push-in-Some-2.ensures.items, length-append c.loop-each.names.items (w.in-Some-2.child ∷ []), w.if-len-ge-MAX_LISTING.false, w.len.ensures, c.loop-each.names.ok.0));
-        more = ?;
+        few = λ _. omega (arith, ap (λ v. length v.items) w.names-is, ap length w.in_ok-push-in-Some-2.ensures.items, length-append c.loop-each.names.items (w.in-Some-2.child ∷ []), w.if-len-ge-MAX_LISTING.false, w.len.ensures, c.loop-each.names.ok.0);
+        more = omega (arith, ap (λ v. length v.items) w.names-is, ap length w.in_ok-push-in-Some-2.ensures.items, length-append c.loop-each.names.items (w.in-Some-2.child ∷ []), c.loop-each.invariant.more);
         searched = λ at t path all tree r names within listed next.
             let old = c.args.names.now.items in
             let s = search_here at t path all old c.args.found.now c.loop-each.each-index c.each-item.result c.loop-each.names.items c.loop-each.from.items c.loop-each-test.true c.each-item.is (c.loop-each.invariant.searched at t path all tree r names within listed next) in
@@ -60,19 +58,15 @@ loop-each-preserved c =
             let after : IsAtLeast c.each-item.result.key c.loop-each.from.items = λ less. (let no : false ≡ true = sym not_less ∙ ap is_lt less in cc) in
             let entry = search_finds at t path all old c.each-item.result _ c.loop-each.each-index c.loop-each.names.items c.loop-each.from.items s c.as_slice-key.result.now c.as_slice-in-loop-each.result.now c.as_slice-key.ensures c.as_slice-in-loop-each.ensures after in
             let child : IsSome c.in_ok-child_at.field-0 × (c.in_ok-child_at.field-0 ≡ first_of (those_after s.listed.last (children path t))) = c.in_ok-child_at.ensures.child at t tree r path s.listed.last names s.listed.bytes within entry in
-            let key : IsKey c.as_slice-key.result.now = λ i. omega (arith, c.as_slice-key.type_inv i) in
-            let pushed : w.push.new.self.items ≡ c.loop-each.names.items ++ w.in-Some-2.child ∷ [] = w.in_ok-push-in-Some-2.ensures.items in
-            let from_is = w.from-is in
-            let names_is = w.names-is in
-            let child_is = w.in-Some-2.child-is in
-            let child_is_2 = w.in-Some-2.is in
-            let child_is_3 = w.in_ok-from-in-Some-2.ensures.name in
-            let child_is_4 = w.in_ok-from-in-Some-2.ensures.key in
-            ?;
+            let key : IsKey c.as_slice-key.result.now = search rules in
+            let are : c.match-branch-2.names.items ≡ c.loop-each.names.items ++ w.in-Some.field-0 ∷ [] = ap (λ v. v.items) w.names-is ∙ w.in_ok-push-in-Some-2.ensures.items in
+            let from_is : c.match-branch-2.from.items ≡ key_after path (Some w.in-Some.field-0.name) = ap (λ v. v.items) w.from-is ∙ w.in_ok-from-in-Some-2.ensures.key ∙ ap (λ (k : List ℕ). k ++ (w.in-Some.field-0.name ++ 1 ∷ [])) within in
+            search_adds at t path all old c.each-item.result _ c.loop-each.each-index c.loop-each.names.items c.loop-each.from.items s w.in-Some.field-0 c.match-branch-2.names.items c.match-branch-2.from.items
+            tree r names (subst IsKey c.as_slice-key.ensures key) c.loop-each.invariant.more after (sym w.in-Some.is ∙ child.1) are from_is w.in_ok-from-in-Some-2.ensures.name;
       }
       | in-None+in_ok-from-in-None w ↦ record {
-        few = λ h. subst (λ (v : Vec Listed). length v.items ≤ listing_limit) (sym w.names-is) (c.loop-each.invariant.few h);
-        more = subst (λ (v : Vec Listed). length c.args.names.now.items ≤ length v.items) (sym w.names-is) c.loop-each.invariant.more;
+        few = λ h. omega (arith, ap (λ v. length v.items) w.names-is, c.loop-each.invariant.few h);
+        more = omega (arith, ap (λ v. length v.items) w.names-is, c.loop-each.invariant.more);
         searched = λ at t path all tree r names within listed next.
             let old = c.args.names.now.items in
             let s = search_here at t path all old c.args.found.now c.loop-each.each-index c.each-item.result c.loop-each.names.items c.loop-each.from.items c.loop-each-test.true c.each-item.is (c.loop-each.invariant.searched at t path all tree r names within listed next) in
