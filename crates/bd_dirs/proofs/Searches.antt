@@ -1,8 +1,8 @@
 -- The search for children among what a scan found.
-use Rattle.std.proofs.Common.{◌≡◌, ℕ, ◌<◌, ◌≤◌, ◌+◌, true, false, List, [], ◌∷◌, ◌++◌, ◌⊎◌, inl, inr, length, take, drop, get_or, refl, sym, ap, subst, ◌∙◌, arith, append_assoc, append-nil, length-append, Less}
-use Rattle.std.specs.Prelude.{Option, Some, None, IsSome, nat_lt}
+use Rattle.std.proofs.Common.{◌≡◌, ℕ, ◌<◌, ◌≤◌, ◌+◌, Bool, true, false, List, [], ◌∷◌, ◌++◌, ◌⊎◌, inl, inr, length, take, drop, get_or, refl, sym, ap, subst, ◌∙◌, arith, append_assoc, append-nil, length-append, Less}
+use Rattle.std.specs.Prelude.{Option, Some, None, IsSome, nat_lt, ◌==◌}
 use Rattle.std.specs.List.{list_all}
-use Rattle.std.proofs.lemmas.List.{drop_more, take_all, take-append-le}
+use Rattle.std.proofs.lemmas.List.{drop_more, take_all, take-append-le, nil_from_length}
 use Rattle.std.proofs.Math.Seq.{take-length}
 use Rattle.std.proofs.lemmas.Bool.Decides.{nat_tests}
 use Rattle.bd_limits.specs.Limits.{listing_limit}
@@ -16,7 +16,7 @@ use Rattle.bd_model.proofs.Listing.{names_rise}
 use Rattle.bd_message.specs.KeyMaps.{At, IsNextEntry}
 use Rattle.bd_represent.specs.Represents.{Represents}
 use Rattle.bd_scan.specs.declared.scan.Found.{Found}
-use Rattle.bd_scan.specs.Scans.{AreNext}
+use Rattle.bd_scan.specs.Scans.{AreNext, IsScan}
 use Rattle.bd_dirs.specs.Listings.{first_of, lower, key_after, IsListedTo, IsAdded}
 use Rattle.bd_dirs.proofs.ChildOrder.{next_key}
 use Rattle.bd_dirs.proofs.Children.{IsChildKey, child_found, next_listed}
@@ -41,6 +41,13 @@ child_below : (path : List (List ℕ)) (n k : List ℕ) → k ≡ key_of path ++
 child_below path n k is =
     ap (λ (l : List ℕ). key_cmp l (key_after path (Some n))) is ∙ key_cmp-front (key_of path) (n ++ 0 ∷ 0 ∷ 0 ∷ []) (n ++ 1 ∷ [])
     ∙ key_cmp-front n (0 ∷ 0 ∷ 0 ∷ []) (1 ∷ []) ∙ first_less 0 1 (0 ∷ 0 ∷ []) [] (omega arith)
+
+-- a scan, where what was asked and what was found are told otherwise
+pub scan_along : (at : At) (from from' within within' : List ℕ) (found found' : List Found) → from ≡ from' → within ≡ within' → found ≡ found' → IsScan at from within found → IsScan at from' within' found'
+scan_along at from from' within within' found found' e f g scan =
+    subst (λ (k : List ℕ). IsScan at k within' found') e
+    (subst (λ (w : List ℕ). IsScan at from w found') f
+    (subst (λ (fs : List Found). IsScan at from within fs) g scan))
 
 module _ (at : At) (t : Tree) (path : List (List ℕ)) (all old : List Listed) where
   pub search_begins : (from within : List ℕ) (found : List Found) → within ≡ key_of path → IsListedTo t path all old from → AreNext at from within found → IsSearched at t path all old found 0 old from
@@ -138,19 +145,31 @@ listing_whole t path all names from l listed first few many = by (those_after li
         cc
 
 -- where no name follows, too
-pub listing_ends : (all names : List Listed) → all ≡ names ++ [] → length names ≤ listing_limit → record { names = names; more = false } ≡ listing_of all
-listing_ends all names is few =
-    let all_are : all ≡ names = is ∙ append-nil names in
-    let shown : take listing_limit all ≡ names = take_all listing_limit all (omega (arith, ap length all_are)) ∙ all_are in
-    let short : length all ≤ listing_limit = omega (arith, ap length all_are) in
-    let more : nat_lt listing_limit (length all) ≡ false = grind (arith, nat_tests) in
-    cc
+pub listing_ends : (t : Tree) (path : List (List ℕ)) (all names : List Listed) (from : List ℕ) → (listed : IsListedTo t path all names from) → first_of (those_after listed.last (children path t)) ≡ None
+    → length names ≤ listing_limit → record { names = names; more = false } ≡ listing_of all
+listing_ends t path all names from listed none few = by (those_after listed.last (children path t)) refl none
+  where
+    by : (fs : List Listed) → those_after listed.last (children path t) ≡ fs → first_of fs ≡ None → record { names = names; more = false } ≡ listing_of all
+    by (x ∷ others) is one = cc
+    by [] is none =
+        let all_are : all ≡ names = listed.all_are ∙ ap (λ (ls : List Listed). names ++ ls) is ∙ append-nil names in
+        let shown : take listing_limit all ≡ names = take_all listing_limit all (omega (arith, ap length all_are)) ∙ all_are in
+        let short : length all ≤ listing_limit = omega (arith, ap length all_are) in
+        let more : nat_lt listing_limit (length all) ≡ false = grind (arith, nat_tests) in
+        cc
+
+-- the test says whether anything was found
+pub any_found : (found : List Found) (test : Bool) → test ≡ (length found == 0) → test ≡ false → 1 ≤ length found
+any_found found test is unmet = grind (arith, nat_tests)
+
+pub none_found : (found : List Found) (test : Bool) → test ≡ (length found == 0) → test ≡ true → found ≡ []
+none_found found test is met = nil_from_length found (grind (arith, nat_tests))
 
 -- all that was found was looked at
 pub search_ends : (at : At) (t : Tree) (path : List (List ℕ)) (all old names : List Listed) (found left : List Found) (from : List ℕ) (passed : ℕ) → passed ≡ length found → IsSearched at t path all old left passed names from
     → IsAdded t path all old names from (length found) false
 search_ends at t path all old names found left from passed whole s = record {
-  whole = λ no. cc;
+  whole = λ never. cc;
   listed = λ _. s.listed;
   further = λ _ some. by s.further some;
 }
