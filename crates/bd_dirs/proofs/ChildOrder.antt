@@ -31,6 +31,24 @@ byte_at_least b h = leb-true 33 b (and_parts (nat_le 33 b) (nat_le b 255 && (not
 not_more_less : (o : Ordering) → o ≡ Greater → o ≡ Less → ⊥
 not_more_less o g l = cc
 
+-- a key above another is at least the next one after that
+pub next_key : (k l : List ℕ) → IsBelow k l → IsAtLeast l (k ++ 0 ∷ [])
+next_key k [] below less = not_below_nil k below
+next_key [] (b ∷ l) below less = by (compared 0 b)
+  where
+    by : (0 < b) ⊎ ((0 ≡ b) ⊎ (b < 0)) → ⊥
+    by (inl more) = not_more_less (key_cmp (b ∷ l) (0 ∷ [])) (first_more b 0 l [] more) less
+    by (inr (inl same)) = not_below_nil l (sym (first_same 0 l []) ∙ ap (λ (d : ℕ). key_cmp (d ∷ l) (0 ∷ [])) same ∙ less)
+    by (inr (inr under)) = omega arith
+next_key (a ∷ k) (b ∷ l) below less = by (compared a b) (next_key k l)
+  where
+    by : (a < b) ⊎ ((a ≡ b) ⊎ (b < a)) → (IsBelow k l → IsAtLeast l (k ++ 0 ∷ [])) → ⊥
+    by (inl more) ih = not_more_less (key_cmp (b ∷ l) (a ∷ (k ++ 0 ∷ []))) (first_more b a l (k ++ 0 ∷ []) more) less
+    by (inr (inl same)) ih =
+        ih (sym (first_same a k l) ∙ ap (λ (d : ℕ). key_cmp (a ∷ k) (d ∷ l)) same ∙ below)
+        (sym (first_same a l (k ++ 0 ∷ [])) ∙ ap (λ (d : ℕ). key_cmp (d ∷ l) (a ∷ (k ++ 0 ∷ []))) same ∙ less)
+    by (inr (inr more)) ih = not_more_less (key_cmp (a ∷ k) (b ∷ l)) (first_more a b k l more) below
+
 -- a name below another stays below it before a byte that is less than each of a name
 before_byte : (m n : List ℕ) (a : ℕ) (x y : List ℕ) → list_all is_name_byte n ≡ true → a ≤ 1 → IsBelow m n → IsBelow (m ++ a ∷ x) (n ++ y)
 before_byte [] [] a x y bytes small below = absurd (not_below_nil [] below)
@@ -101,15 +119,7 @@ children_order p m n x y names less =
 -- nothing is below two zero bytes but what is no key of an entry
 zeros_least : (x : List ℕ) → key_cmp (0 ∷ x) (0 ∷ 0 ∷ []) ≡ Less → x ≡ []
 zeros_least [] h = refl
-zeros_least (b ∷ x) h = absurd (by (compared 0 b))
-  where
-    two : key_cmp (b ∷ x) (0 ∷ []) ≡ Less
-    two = sym (first_same 0 (b ∷ x) (0 ∷ [])) ∙ h
-
-    by : (0 < b) ⊎ ((0 ≡ b) ⊎ (b < 0)) → ⊥
-    by (inl more) = not_more_less (key_cmp (b ∷ x) (0 ∷ [])) (first_more b 0 x [] more) two
-    by (inr (inl same)) = not_below_nil x (sym (first_same 0 x []) ∙ ap (λ (d : ℕ). key_cmp (d ∷ x) (0 ∷ [])) same ∙ two)
-    by (inr (inr less)) = omega arith
+zeros_least (b ∷ x) h = absurd (next_key [] (b ∷ x) refl (sym (first_same 0 (b ∷ x) (0 ∷ [])) ∙ h))
 
 -- the first byte of a name is above zero
 named_first : (n y : List ℕ) (z : List ℕ) → is_name n ≡ true → key_cmp (n ++ y) (0 ∷ z) ≢ Less

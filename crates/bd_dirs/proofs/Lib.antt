@@ -4,3 +4,4 @@ pub mod NewPlans
 pub mod ChildOrder
 pub mod Listings
 pub mod Children
+pub mod Searches

@@ -162,46 +162,6 @@ those-first None [] x rest is = cc
 those-first None (y ∷ ls) x rest is = let same : y ≡ x = cc in ((0, omega arith, same), λ h. h)
 those-first (Some n) ls x rest is = let found = filter-first (is_after n) ls x rest is in (found.0, λ h. after_below n x found.1)
 
-lt_more : (m n : ℕ) → nat_lt (suc m) (suc n) ≡ nat_lt m n
-lt_more m n = grind (arith, nat_tests)
-
--- one more child taken
-pub take-more : (room : ℕ) (after : Option (List ℕ)) (ls : List Listed) (l : Listed) → Rises ls → first_of (those_after after ls) ≡ Some l
-    → (take (suc room) (those_after after ls) ≡ l ∷ take room (those_after (Some l.name) ls)) × (nat_lt (suc room) (length (those_after after ls)) ≡ nat_lt room (length (those_after (Some l.name) ls)))
-take-more room after ls l rises first = by (those_after after ls) refl first
-  where
-    by : (fs : List Listed) → those_after after ls ≡ fs → first_of fs ≡ Some l
-        → (take (suc room) fs ≡ l ∷ take room (those_after (Some l.name) ls)) × (nat_lt (suc room) (length fs) ≡ nat_lt room (length (those_after (Some l.name) ls)))
-    by [] is f = cc
-    by (x ∷ rest) is f =
-        let same : x ≡ l = cc in
-        let others : those_after (Some x.name) ls ≡ rest = after-more after ls x rest rises is in
-        subst (λ (y : Listed). (take (suc room) (x ∷ rest) ≡ y ∷ take room (those_after (Some y.name) ls)) × (nat_lt (suc room) (length (x ∷ rest)) ≡ nat_lt room (length (those_after (Some y.name) ls)))) same
-        (ap (λ (r : List Listed). x ∷ take room r) (sym others), lt_more room (length rest) ∙ ap (λ (r : List Listed). nat_lt room (length r)) (sym others))
-
-if_ok : {A E : Type 0} (r : Result A E) (P Q : A → Type 0) → ((a : A) → P a → Q a) → IfOk r P → IfOk r Q
-if_ok (Ok a) P Q f h = f a h
-if_ok (Err e) P Q f h = h
-
--- the first of the names, as it was found
-pub first_found : (fs : List Listed) (o : Option Listed) (l : Listed) → o ≡ first_of fs → o ≡ Some l → first_of fs ≡ Some l
-first_found fs o l e f = sym e ∙ f
-
--- what a child and those after it add
-pub add_more : {E : Type 0} (result : Result Bool E) (old pushed new : List Listed) (room less : ℕ) (after : Option (List ℕ)) (ls : List Listed) (l : Listed) (name : List ℕ) → Rises ls → first_of (those_after after ls) ≡ Some l → name ≡ l.name
-    → suc less ≡ room → pushed ≡ old ++ l ∷ [] → IfOk result (λ _. new ≡ pushed ++ take less (those_after (Some name) ls)) → IfOk result (λ _. new ≡ old ++ take room (those_after after ls))
-add_more result old pushed new room less after ls l name rises first named e push =
-    if_ok result (λ _. new ≡ pushed ++ take less (those_after (Some name) ls)) (λ _. new ≡ old ++ take room (those_after after ls))
-    (λ b made. made ∙ ap (λ (p : List Listed). p ++ take less (those_after (Some name) ls)) push ∙ append_assoc old (l ∷ []) (take less (those_after (Some name) ls))
-    ∙ ap (λ (n : List ℕ). old ++ l ∷ take less (those_after (Some n) ls)) named
-    ∙ ap (λ (r : List Listed). old ++ r) (sym (take-more less after ls l rises first).0 ∙ ap (λ (n : ℕ). take n (those_after after ls)) e))
-
-pub add_rest : {E : Type 0} (result : Result Bool E) (room less : ℕ) (after : Option (List ℕ)) (ls : List Listed) (l : Listed) (name : List ℕ) → Rises ls → first_of (those_after after ls) ≡ Some l → name ≡ l.name
-    → suc less ≡ room → IfOk result (λ more. more ≡ nat_lt less (length (those_after (Some name) ls))) → IfOk result (λ more. more ≡ nat_lt room (length (those_after after ls)))
-add_rest result room less after ls l name rises first named e =
-    if_ok result (λ more. more ≡ nat_lt less (length (those_after (Some name) ls))) (λ more. more ≡ nat_lt room (length (those_after after ls)))
-    (λ b made. made ∙ ap (λ (n : List ℕ). nat_lt less (length (those_after (Some n) ls))) named ∙ sym (take-more less after ls l rises first).1 ∙ ap (λ (n : ℕ). nat_lt n (length (those_after after ls))) e)
-
 -- the reply to a listing of a directory
 pub list_reply : (t : Tree) (path : List (List ℕ)) (after : Option (List ℕ)) (mode : ℕ) (found : Option Record) (listing : Listing) → found ≡ option_map record_of (get t path) → found ≡ Some (Dir mode)
     → listing ≡ listing_of (those_after after (children path t)) → Names listing ≡ (step t (Ls path after)).1

@@ -132,6 +132,7 @@ fn add_found(
         → IsTree t → Represents at t → AreNames path → within.now ≡ key_of path
         → IsListedTo t path all names.old.items from.old.items
         → AreNext at from.old.items within.now found.now
+        → length names.old.items ≤ listing_limit
         → IfOk result (IsAdded t path all names.old.items names.new.items from.new.items
         (length found.now)) }
     ensures few { length names.old.items ≤ listing_limit
