@@ -181,13 +181,6 @@ next_listed at t path after k tree rep next child = by (those_after after (child
         (λ less. names_as_keys x.name child.name (0 ∷ 0 ∷ []) (0 ∷ 0 ∷ 0 ∷ []) child.named
         (λ below. least (ap (key_cmp (key_of path ++ (x.name ++ 0 ∷ 0 ∷ 0 ∷ []))) child.is ∙ key_cmp-front (key_of path) (x.name ++ 0 ∷ 0 ∷ 0 ∷ []) (child.name ++ 0 ∷ 0 ∷ 0 ∷ []) ∙ below)) less))
 
--- the least entry, where the key from which and what it begins with are told otherwise
-pub next_along : (at : At) (from from' within within' : List ℕ) (o o' : Option (List ℕ × List ℕ)) → from ≡ from' → within ≡ within' → o ≡ o' → IsNextEntry at from within o → IsNextEntry at from' within' o'
-next_along at from from' within within' o o' e f g next =
-    subst (λ (x : Option (List ℕ × List ℕ)). IsNextEntry at from' within' x) g
-    (subst (λ (w : List ℕ). IsNextEntry at from' w o) f
-    (subst (λ (k : List ℕ). IsNextEntry at k within o) e next))
-
 -- the text before the first zero byte
 zero_free : (n rest : List ℕ) → list_all (λ b. not (b == 0)) n ≡ true → prefix_len (λ b. not (b == 0)) (n ++ 0 ∷ rest) ≡ length n
 zero_free [] rest h = refl

@@ -1,15 +1,13 @@
--- The listing of a directory, taken one child after the other.
-use Rattle.std.proofs.Common.{◌≡◌, ℕ, zero, suc, Bool, true, false, cond, List, [], ◌∷◌, ◌++◌, length, map, take, Less, refl, sym, ap, subst, ◌∙◌, arith, append_assoc}
-use Rattle.std.specs.Prelude.{Option, None, Some, nat_lt}
+-- The names that come after another in the listing of a directory.
+use Rattle.std.proofs.Common.{◌≡◌, ℕ, zero, suc, Bool, true, false, cond, List, [], ◌∷◌, map, Less, refl, sym, ap, subst, ◌∙◌, arith}
+use Rattle.std.specs.Prelude.{Option, None, Some}
 use Rattle.std.specs.List.{filter, Contains, AllByRecursion}
 use Rattle.std.specs.List.Sorted.{IsStrictlySortedBy}
 use Rattle.std.specs.Ordering.{nat_cmp, is_lt}
 use Rattle.std.specs.Cmp.Lexicographic.{slice_cmp}
-use Rattle.std.proofs.lemmas.Bool.Decides.{nat_tests}
 use Rattle.bd_command.specs.declared.reply.Listed.{Listed}
 use Rattle.bd_keys.specs.Keys.{key_cmp, IsBelow}
 use Rattle.bd_keys.proofs.Order.{is_lt-less}
-use Rattle.std.specs.Prelude.{Result, Ok, Err, IfOk}
 use Rattle.std.specs.Option.{option_map}
 use Rattle.std.specs.FinMap.{get}
 use Rattle.bd_command.specs.declared.Command.TheVariants.{List as Ls}
@@ -22,7 +20,7 @@ use Rattle.bd_model.specs.Tree.{Entry, Directory, FileWith, Tree}
 use Rattle.bd_model.specs.Step.{those_after, children, listing_of, step, stepped, directory_refusal}
 use Rattle.std.proofs.lemmas.Cmp.{nat_list_cmp_total as total}
 use Rattle.bd_dirs.proofs.ChildOrder.{not_twice_below}
-use Rattle.bd_dirs.specs.Listings.{first_of, lower}
+use Rattle.bd_dirs.specs.Listings.{lower}
 
 -- names that rise
 abbrev pub Rises : List Listed → Type 0

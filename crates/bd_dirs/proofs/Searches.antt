@@ -1,13 +1,14 @@
 -- The search for children among what a scan found.
-use Rattle.std.proofs.Common.{◌≡◌, ℕ, ◌<◌, ◌≤◌, ◌+◌, Bool, true, false, List, [], ◌∷◌, ◌++◌, ◌⊎◌, inl, inr, length, take, drop, get_or, refl, sym, ap, subst, ◌∙◌, arith, append_assoc, append-nil, length-append, Less}
-use Rattle.std.specs.Prelude.{Option, Some, None, IsSome, nat_lt, ◌==◌}
+use Rattle.std.proofs.Common.{◌≡◌, ℕ, ◌<◌, ◌≤◌, ◌+◌, Bool, true, false, List, [], ◌∷◌, ◌++◌, ◌⊎◌, inl, inr, length, take, drop, get_or, refl, sym, ap, subst, ◌∙◌, arith, append_assoc, append-nil, length-append}
+use Rattle.std.specs.Prelude.{Some, None, nat_lt, ◌==◌}
 use Rattle.std.specs.List.{list_all}
+use Rattle.std.specs.Ordering.{is_lt}
 use Rattle.std.proofs.lemmas.List.{drop_more, take_all, take-append-le, nil_from_length}
 use Rattle.std.proofs.Math.Seq.{take-length}
 use Rattle.std.proofs.lemmas.Bool.Decides.{nat_tests}
 use Rattle.bd_limits.specs.Limits.{listing_limit}
 use Rattle.bd_keys.specs.Keys.{IsKey, IsBelow, IsAtLeast, key_cmp}
-use Rattle.bd_keys.proofs.Order.{first_less, below_from, not_below_itself, key_cmp-front}
+use Rattle.bd_keys.proofs.Order.{first_less, below_from, not_below_itself, is_lt-less, not_false, key_cmp-front}
 use Rattle.bd_names.specs.Names.{is_name_byte, AreNames, key_of}
 use Rattle.bd_command.specs.declared.reply.Listed.{Listed}
 use Rattle.bd_model.specs.Tree.{is_directory, Tree, IsTree}
@@ -17,7 +18,7 @@ use Rattle.bd_message.specs.KeyMaps.{At, IsNextEntry}
 use Rattle.bd_represent.specs.Represents.{Represents}
 use Rattle.bd_scan.specs.declared.scan.Found.{Found}
 use Rattle.bd_scan.specs.Scans.{AreNext, IsScan}
-use Rattle.bd_dirs.specs.Listings.{first_of, lower, key_after, IsListedTo, IsAdded}
+use Rattle.bd_dirs.specs.Listings.{first_of, key_after, IsListedTo, IsAdded}
 use Rattle.bd_dirs.proofs.ChildOrder.{next_key}
 use Rattle.bd_dirs.proofs.Children.{IsChildKey, child_found, next_listed}
 use Rattle.bd_dirs.proofs.Listings.{after-more}
@@ -35,6 +36,13 @@ pub record IsSearched (at : At) (t : Tree) (path : List (List ℕ)) (all old : L
 later_entry : (at : At) (low from within : List ℕ) (f : List ℕ × List ℕ) → IsNextEntry at low within (Some f) → IsAtLeast from low → IsAtLeast f.0 from → IsNextEntry at from within (Some f)
 later_entry at low from within f (((some, _, begins), least), stored) above after =
     (((some, after, begins), λ l found. least l (found.0, λ less. found.1 (below_from l low from less above), found.2)), stored)
+
+-- the test says which
+pub below_tested : (k l : List ℕ) → is_lt (key_cmp k l) ≡ true → IsBelow k l
+below_tested k l = (is_lt-less (key_cmp k l)).0
+
+pub least_tested : (k l : List ℕ) → is_lt (key_cmp k l) ≡ false → IsAtLeast k l
+least_tested k l h less = not_false (sym h ∙ ap is_lt less)
 
 -- the key of a child is below the key after it
 child_below : (path : List (List ℕ)) (n k : List ℕ) → k ≡ key_of path ++ (n ++ 0 ∷ 0 ∷ 0 ∷ []) → IsBelow k (key_after path (Some n))

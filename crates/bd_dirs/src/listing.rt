@@ -1,6 +1,6 @@
 //! The names of what stands in a directory.
 
-ghost use Rattle.std.specs.Prelude.{◌≡◌, ◌≤◌, ◌+◌, ℕ, List, [], ◌∷◌, ◌++◌, length, take, Option, Some, None, not, ◌==◌, nat_lt, true, IsTrue, IsSome, IfOk, IfErr};
+ghost use Rattle.std.specs.Prelude.{◌≡◌, ◌≤◌, ℕ, List, [], ◌∷◌, ◌++◌, length, Option, Some, not, ◌==◌, true, IsTrue, IsSome, IfOk, IfErr};
 ghost use Rattle.std.specs.List.{prefix_len, list_all};
 ghost use Rattle.std.specs.Option.{option_copied};
 ghost use Rattle.bd_limits.specs.Limits.{listing_limit};
@@ -27,13 +27,17 @@ use bd_records::{Record, read_record};
 use bd_scan::{Found, Scan};
 use std::alloc::{AllocError, Global};
 
-// How many scans in a row may find none but entries that are none of a tree's, before a directory is
-// taken to end there.
+// How many scans in a row may find none but entries that are none of a tree's, before a directory
+// is taken to end there.
 const MAX_PASSED: u32 = 65_536;
 
-// How many entries the first scan of a listing asks for, and any at most and at least.
+// How many entries the first scan of a listing asks for.
 const FIRST_SCAN: usize = 16;
+
+// How many entries a later scan asks for at most.
 const MAX_SCAN: usize = 64;
+
+// How many entries a later scan asks for at least.
 const MIN_SCAN: usize = 4;
 
 // What follows a name in the key of its record.
@@ -111,8 +115,8 @@ fn listing_from(names: Vec<Listed>, more: bool) -> Listing
     }
 }
 
-/// How many entries a scan asks for after one that had so many children: more where most of what was
-/// found were children, and few where it was mostly what stands below them.
+/// How many entries a scan asks for after one that had so many children: more where most of what
+/// was found were children, and few where it was mostly what stands below them.
 fn next_most(children: usize) -> usize
     ensures { 1 ≤ result }
 {
@@ -157,8 +161,8 @@ fn add_found(
     Ok(false)
 }
 
-/// The key from which a search goes on past an entry that is none of a tree's: that of the record of
-/// its name, where the entry stands before that, and else the key after all those of the name.
+/// The key from which a search goes on past an entry that is none of a tree's: that of the record
+/// of its name, where the entry stands before that, and else the key after all those of the name.
 fn key_past(alloc: Global, within: &[u8], key: &[u8]) -> Result<Vec<u8>, AllocError> {
     let text = tail(key, within.len());
     let len = len_before_zero(text);

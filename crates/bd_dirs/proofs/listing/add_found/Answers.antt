@@ -1,13 +1,11 @@
-use Rattle.std.proofs.Common.{◌≡◌, ℕ, ◌+◌, ◌++◌, ◌∷◌, [], ◌≤◌, true, false, List, length, length-append, subst, refl, sym, ap, ◌∙◌, arith, rules}
-use Rattle.std.specs.Prelude.{Some, None, IsSome}
+use Rattle.std.proofs.Common.{◌≡◌, ℕ, ◌++◌, ◌∷◌, [], ◌≤◌, List, length, length-append, subst, sym, ap, ◌∙◌, arith, rules}
+use Rattle.std.specs.Prelude.{Some, IsSome}
 use Rattle.bd_model.specs.Step.{children, those_after}
 use Rattle.bd_dirs.specs.Listings.{first_of, key_after}
 use Rattle.bd_dirs.proofs.Children.{none_there}
-use Rattle.std.specs.Ordering.{is_lt}
-use Rattle.bd_keys.specs.Keys.{IsKey, IsBelow, IsAtLeast, key_cmp}
-use Rattle.bd_keys.proofs.Order.{is_lt-less}
+use Rattle.bd_keys.specs.Keys.{IsKey}
 use Rattle.bd_limits.specs.Limits.{listing_limit}
-use Rattle.bd_dirs.proofs.Searches.{search_begins, search_here, search_passes, search_finds, search_adds, listing_whole, search_ends}
+use Rattle.bd_dirs.proofs.Searches.{search_begins, search_here, search_passes, search_finds, search_adds, listing_whole, search_ends, below_tested, least_tested}
 use Rattle.bd_dirs.proofs.listing.add_found.Goals as goal
 use Rattle.bd_dirs.proofs.listing.add_found.Goals.{in-Some-2+in_ok-from-in-Some-2+in_ok-push-in-Some-2, in-None+in_ok-from-in-None}
 
@@ -26,23 +24,21 @@ loop-each-preserved-then-is_lt c = record {
   searched = λ at t path all tree r names within listed next.
       let old = c.args.names.now.items in
       let s = search_here at t path all old c.args.found.now c.loop-each.each-index c.each-item.result c.loop-each.names.items c.loop-each.from.items c.loop-each-test.true c.each-item.is (c.loop-each.invariant.searched at t path all tree r names within listed next) in
-      let less : is_lt (key_cmp c.each-item.result.key c.loop-each.from.items) ≡ true = cc in
-      search_passes at t path all old c.each-item.result _ c.loop-each.each-index c.loop-each.names.items c.loop-each.from.items s ((is_lt-less (key_cmp c.each-item.result.key c.loop-each.from.items)).0 less);
+      search_passes at t path all old c.each-item.result _ c.loop-each.each-index c.loop-each.names.items c.loop-each.from.items s (below_tested c.each-item.result.key c.loop-each.from.items (cc));
 }
 
 pub returns-in-Some-clause-added : goal.returns-in-Some-clause-added
 returns-in-Some-clause-added c = λ at t path all tree r names within listed next few.
     let old = c.args.names.now.items in
     let s = search_here at t path all old c.args.found.now c.loop-each.each-index c.each-item.result c.loop-each.names.items c.loop-each.from.items c.loop-each-test.true c.each-item.is (c.loop-each.invariant.searched at t path all tree r names within listed next) in
-    let not_less : is_lt (key_cmp c.each-item.result.key c.loop-each.from.items) ≡ false = cc in
-    let after : IsAtLeast c.each-item.result.key c.loop-each.from.items = λ less. (let no : false ≡ true = sym not_less ∙ ap is_lt less in cc) in
+    let after = least_tested c.each-item.result.key c.loop-each.from.items (cc) in
     let entry = search_finds at t path all old c.each-item.result _ c.loop-each.each-index c.loop-each.names.items c.loop-each.from.items s c.as_slice-key.result.now c.as_slice-in-loop-each.result.now c.as_slice-key.ensures c.as_slice-in-loop-each.ensures after in
     let child = c.in_ok-child_at.ensures.child at t tree r path s.listed.last names s.listed.bytes within entry in
     let many : listing_limit ≤ length c.loop-each.names.items = omega (arith, c.if-len-ge-MAX_LISTING.true, c.len.ensures, c.loop-each.names.ok.0) in
     record {
       whole = λ _. listing_whole t path all c.loop-each.names.items c.loop-each.from.items c.in-Some.field-0 s.listed (sym c.in-Some.is ∙ child.1) (c.loop-each.invariant.few few) many;
-      listed = λ no. absurd (cc);
-      further = λ no. absurd (cc);
+      listed = λ never. absurd (cc);
+      further = λ never. absurd (cc);
     }
 
 pub loop-each-preserved : goal.loop-each-preserved
@@ -54,8 +50,7 @@ loop-each-preserved c =
         searched = λ at t path all tree r names within listed next.
             let old = c.args.names.now.items in
             let s = search_here at t path all old c.args.found.now c.loop-each.each-index c.each-item.result c.loop-each.names.items c.loop-each.from.items c.loop-each-test.true c.each-item.is (c.loop-each.invariant.searched at t path all tree r names within listed next) in
-            let not_less : is_lt (key_cmp c.each-item.result.key c.loop-each.from.items) ≡ false = cc in
-            let after : IsAtLeast c.each-item.result.key c.loop-each.from.items = λ less. (let no : false ≡ true = sym not_less ∙ ap is_lt less in cc) in
+            let after = least_tested c.each-item.result.key c.loop-each.from.items (cc) in
             let entry = search_finds at t path all old c.each-item.result _ c.loop-each.each-index c.loop-each.names.items c.loop-each.from.items s c.as_slice-key.result.now c.as_slice-in-loop-each.result.now c.as_slice-key.ensures c.as_slice-in-loop-each.ensures after in
             let child : IsSome c.in_ok-child_at.field-0 × (c.in_ok-child_at.field-0 ≡ first_of (those_after s.listed.last (children path t))) = c.in_ok-child_at.ensures.child at t tree r path s.listed.last names s.listed.bytes within entry in
             let key : IsKey c.as_slice-key.result.now = search rules in
@@ -70,8 +65,7 @@ loop-each-preserved c =
         searched = λ at t path all tree r names within listed next.
             let old = c.args.names.now.items in
             let s = search_here at t path all old c.args.found.now c.loop-each.each-index c.each-item.result c.loop-each.names.items c.loop-each.from.items c.loop-each-test.true c.each-item.is (c.loop-each.invariant.searched at t path all tree r names within listed next) in
-            let not_less : is_lt (key_cmp c.each-item.result.key c.loop-each.from.items) ≡ false = cc in
-            let after : IsAtLeast c.each-item.result.key c.loop-each.from.items = λ less. (let no : false ≡ true = sym not_less ∙ ap is_lt less in cc) in
+            let after = least_tested c.each-item.result.key c.loop-each.from.items (cc) in
             let entry = search_finds at t path all old c.each-item.result _ c.loop-each.each-index c.loop-each.names.items c.loop-each.from.items s c.as_slice-key.result.now c.as_slice-in-loop-each.result.now c.as_slice-key.ensures c.as_slice-in-loop-each.ensures after in
             let child : IsSome c.in_ok-child_at.field-0 × (c.in_ok-child_at.field-0 ≡ first_of (those_after s.listed.last (children path t))) = c.in_ok-child_at.ensures.child at t tree r path s.listed.last names s.listed.bytes within entry in
             absurd (none_there c.in_ok-child_at.field-0 child.0 w.in-None.is);

@@ -1,4 +1,4 @@
-use Rattle.std.proofs.Common.{◌≡◌, ◌≤◌, ℕ, List, length, ◌+◌, ◌*◌, ◌-◌}
+use Rattle.std.proofs.Common.{◌≡◌, ◌≤◌, length, ◌+◌, ◌*◌, ◌-◌}
 use Rattle.std.specs.Option.{option_copied}
 use Rattle.bd_limits.specs.Limits.{listing_limit}
 use Rattle.bd_message.specs.Reads.{IsLeft}
