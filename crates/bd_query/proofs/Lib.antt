@@ -6,5 +6,6 @@ pub mod StretchLemmas
 pub mod TurnLemmas
 pub mod RunLemmas
 pub mod SearchLemmas
+pub mod ScanLemmas
 pub mod AskLemmas
 pub mod NewestLemmas

@@ -1,7 +1,7 @@
 -- How a search goes on, and that it ends.
 use Rattle.std.proofs.Common.{◌≡◌, ℕ, zero, suc, ◌+◌, ◌-◌, ◌<◌, ◌≤◌, List, [], ◌∷◌, length, refl, sym, ap, subst, ◌∙◌, Option, None, Some, arith, inl, inr, Less, Greater, true, false}
-use Rattle.std.specs.Prelude.{IsSome, if◌then◌else◌}
-use Rattle.std.proofs.lemmas.Bool.{cases_order, cases_Bool, cond-true, cond-false}
+use Rattle.std.specs.Prelude.{IsSome}
+use Rattle.std.proofs.lemmas.Bool.{cases_order, cases_Bool}
 use Rattle.bd_keys.specs.Keys.{IsKey, IsBelow, IsAtLeast, Begins}
 use Rattle.bd_keys.proofs.Order.{first_less, first_same, first_more, not_below_nil, IsKey-rest, Begins-cons, Begins-uncons}
 use Rattle.bd_message.specs.KeyMaps.{At, IsFound, IsNext, IsNextEntry}
@@ -10,15 +10,12 @@ use Rattle.bd_node.specs.Meaning.{Nodes, at}
 use Rattle.bd_node.proofs.Lookup.{key-is_key, is_key-key}
 use Rattle.bd_node.proofs.LawLemmas.{others_have_nothing}
 use Rattle.bd_query.specs.declared.turns.Turn.{Turn}
-use Rattle.bd_query.specs.declared.turns.Turn.TheVariants.{Found, Next, Passed}
-use Rattle.bd_query.specs.Stretches.{IsEnd, IsEmpty, IsFirst, IsTurn, PassesTo}
+use Rattle.bd_query.specs.declared.turns.Turn.TheVariants.{Found, Passed}
+use Rattle.bd_query.specs.Stretches.{IsEnd, IsEmpty, IsTurn, PassesTo}
 use Rattle.bd_query.specs.Asks.{AreVisitsOfWay}
 use Rattle.bd_query.proofs.AskLemmas.{IsSearching, searching_on}
 use Rattle.bd_query.proofs.EndLemmas.{below_or_least, least_trans}
-use Rattle.bd_query.proofs.StretchLemmas.{begins_true, true_begins}
 use Rattle.bd_node.proofs.Touched.{least_back}
-use Rattle.bd_message.specs.Effect.{begins}
-use Rattle.bd_message.proofs.Finds.{not_both}
 
 -- ---- the place of a key among all keys of at most so many bytes
 
@@ -134,7 +131,7 @@ none_some None e some = cc
 none_some (Some v) e some = cc
 
 -- a key that begins with a prefix is at least the prefix
-begins_least : (k p : List ℕ) → Begins k p → IsAtLeast k p
+pub begins_least : (k p : List ℕ) → Begins k p → IsAtLeast k p
 begins_least k [] begins less = not_below_nil k less
 begins_least [] (a ∷ p) begins less = (let e : zero ≡ suc (length p) = ap (λ (l : List ℕ). length l) begins in absurd (omega arith))
 begins_least (b ∷ k) (a ∷ p) begins less =
@@ -207,17 +204,6 @@ low_other has from within low h other k found = other (begins_between within low
 pub low_found : (has : At) (from within low value : List ℕ) → IsLow has from within low → Begins low within → has low ≡ Some value → IsNextEntry has from within (Some (low, value))
 low_found has from within low value h begins is = (((subst (λ (o : Option (List ℕ)). IsSome o) (sym is) refl, h.from_on, begins), h.rest), is)
 
--- one that finds the next key ends it there: with that key where it begins as it is to, and else with none
-pub low_next : (nodes : Nodes) (id : ℕ) (from within low key value : List ℕ) → IsLow (at nodes id) from within low → IsFirst (at nodes id) low key value → IsNextEntry (at nodes id) from within (if begins key within then Some (key, value) else None)
-low_next nodes id from within low key value h first =
-    let on : IsLow (at nodes id) from within key = low_passed nodes id from within low key h first.on first.empty in
-    elim (cases_Bool (begins key within)) [
-      | inl same ↦ subst (λ (o : Option (List ℕ × List ℕ)). IsNextEntry (at nodes id) from within o) (sym (cond-true (begins key within) (Some (key, value)) None same))
-          (low_found (at nodes id) from within key value on (true_begins key within same) first.has)
-      | inr other ↦ subst (λ (o : Option (List ℕ × List ℕ)). IsNextEntry (at nodes id) from within o) (sym (cond-false (begins key within) (Some (key, value)) None other))
-          (low_other (at nodes id) from within key on (λ same. not_both (begins_true key within same) other))
-    ]
-
 -- ---- the search
 
 -- what is known of one turn of a search, where all keys are looked for from one on
@@ -255,12 +241,6 @@ turned_found nodes id from within low slice value turn slice_is is_found said lo
     subst (λ (k : List ℕ). IsNextEntry (at nodes id) from within (Some (k, value))) slice_is
     (low_found (at nodes id) from within slice value (subst (λ (k : List ℕ). IsLow (at nodes id) from within k) (sym slice_is) low_is) begins_it
     (subst (λ (t : Turn). IsTurn (at nodes id) slice t) is_found said))
-
-pub turned_next : (nodes : Nodes) (id : ℕ) (from within low slice key value : List ℕ) (turn : Turn) → slice ≡ low → turn ≡ Next key value
-    → IsTurn (at nodes id) slice turn → IsLow (at nodes id) from within low → IsNextEntry (at nodes id) from within (if begins key within then Some (key, value) else None)
-turned_next nodes id from within low slice key value turn slice_is is_next said low_is =
-    low_next nodes id from within slice key value (subst (λ (k : List ℕ). IsLow (at nodes id) from within k) (sym slice_is) low_is)
-    (subst (λ (t : Turn). IsTurn (at nodes id) slice t) is_next said)
 
 pub turned_ways : (nodes : Nodes) (id : ℕ) (from within low slice end items : List ℕ) (most : ℕ) (turn : Turn) (some : Option (List ℕ)) (before now after : ℕ) → IsTurned from within low slice most turn → turn ≡ Passed some → some ≡ Some end → items ≡ end
     → IsSearching nodes id from low before now → AreVisitsOfWay nodes id slice now after → IsSearching nodes id from items before after

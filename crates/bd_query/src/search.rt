@@ -47,9 +47,9 @@ pub fn scan<S: NodeStore>(
         (S.visit_count store.old) (S.visit_count store.new))) }
 {
     let mut low = Vec::from_slice(alloc, greater(from, within))?;
-    #[name(turns)]
-    while starts(low.as_slice(), within) {
-        match turn_at(alloc, store, root, low.as_slice(), most)? {
+    'turns: while starts(low.as_slice(), within) {
+        let turn = turn_at(alloc, store, root, low.as_slice(), most)?;
+        match turn {
             Turn::Found { value } => return Ok(alone(alloc, low, value)?),
             Turn::Run { entries } => return Ok(beginning(alloc, entries, within, most)?),
             Turn::Passed { end: None } => return Ok(Vec::new(alloc)),

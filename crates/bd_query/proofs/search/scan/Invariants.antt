@@ -4,7 +4,7 @@ use Rattle.bd_node.specs.Tables.{IsSound}
 use Rattle.bd_query.specs.Stretches.{way_limit}
 use Rattle.bd_query.proofs.AskLemmas.{IsSearching}
 use Rattle.bd_query.proofs.SearchLemmas.{IsLow, places_above}
-use Rattle.bd_query.proofs.search.next.Given as goal
+use Rattle.bd_query.proofs.search.scan.Given as goal
 
 abbrev pub invariant-turns : goal.invariant-turns
 invariant-turns g l = record {
