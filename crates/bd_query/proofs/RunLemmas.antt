@@ -68,7 +68,7 @@ moved_empty at child shared source rest first value end upto moved is_source fou
     ap at split
     ∙ moved.same (drop (length shared) k) (subst IsKey split is_k) (here.0, inside (shared ++ drop (length shared) k) here.1)
     ∙ found.empty (source ++ drop (length shared) k) (IsKey-append source (drop (length shared) k) is_source (IsKey-drop (length shared) k is_k))
-        (least_inside shared rest (drop (length shared) k) source here.0, below (drop (length shared) k) here.1)
+    (least_inside shared rest (drop (length shared) k) source here.0, below (drop (length shared) k) here.1)
 
 -- the first key with a value is the one that stands for the child's
 moved_first : (at child : At) (shared source rest later value : List ℕ) (end : Option (List ℕ)) → IsMoved at child shared source rest end → IsKey source → IsKey (shared ++ later) → IsBelowEnd (shared ++ later) end
@@ -98,11 +98,13 @@ raised_is at child shared source rest end (e ∷ es) moved is_source run keys =
     let split : e.key ≡ source ++ later = begins-is e.key source tests.0 in
     let first : IsFirst at (shared ++ rest) (shared ++ later) e.value =
     moved_first at child shared source rest later e.value end moved is_source are_keys.0 (before_end (shared ++ later) end tests.1)
-    (subst (λ (k : List ℕ). IsFirst child (source ++ rest) k e.value) split run.1) in
-    (are_keys.0, first,
-    subst (λ (k : List ℕ). IsRun at k (raised_run end shared source es)) (sym (append_assoc shared later (0 ∷ [])))
-    (raised_is at child shared source (later ++ 0 ∷ []) end es (moved_after at child shared source rest later end first.on moved) is_source
-    (subst (λ (k : List ℕ). IsRun child k es) (ap (λ (k : List ℕ). k ++ 0 ∷ []) split ∙ append_assoc source later (0 ∷ [])) run.2) are_keys.1)))
+    (subst (λ (k : List ℕ). IsFirst child (source ++ rest) k e.value) split run.1) in (
+      are_keys.0,
+      first,
+      subst (λ (k : List ℕ). IsRun at k (raised_run end shared source es)) (sym (append_assoc shared later (0 ∷ [])))
+          (raised_is at child shared source (later ++ 0 ∷ []) end es (moved_after at child shared source rest later end first.on moved) is_source
+          (subst (λ (k : List ℕ). IsRun child k es) (ap (λ (k : List ℕ). k ++ 0 ∷ []) split ∙ append_assoc source later (0 ∷ [])) run.2) are_keys.1),
+    ))
     (λ past are_keys. tt) keys
 
 -- where the first entry of a run isn't raised, what the keys up to the end stand for is below its key

@@ -83,12 +83,7 @@ pub fn stretch_of(
 }
 
 // What the entries of a leaf say, by at most so many of them.
-fn among(
-    alloc: Global,
-    entries: &[Entry],
-    key: &[u8],
-    most: usize,
-) -> Result<Stretch, AllocError>
+fn among(alloc: Global, entries: &[Entry], key: &[u8], most: usize) -> Result<Stretch, AllocError>
     requires rising { IsRising entries.now }
     requires short { AllByRecursion IsEntry entries.now }
     requires some { 1 ≤ most }

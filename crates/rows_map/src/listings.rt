@@ -56,7 +56,10 @@ fn listings_of_many_children(rt: HostRuntime) -> Result<(), Fail> {
     for limit in [4_000, 0] {
         flush(&mut both.tree, limit)?;
         for line in LISTINGS {
-            assert!(rt; is_same(rt.alloc(), &mut both, line)?, "{line} with {limit}");
+            assert!(rt;
+                is_same(rt.alloc(), &mut both, line)?,
+                "{line} with {limit}"
+            );
         }
     }
     for line in ["clone /d /d/c", "remove /d/n47", "rename /d/n5 /d/n46x"] {

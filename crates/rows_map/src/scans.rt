@@ -94,9 +94,11 @@ fn scans_of_a_leaf_below_what_waits(rt: HostRuntime) -> Result<(), Fail> {
 
 /// Kinds of messages, keys and prefixes of generated ones.
 const KINDS: &[&str] = &["put", "put", "put", "patch", "del", "cut"];
+
 const KEYS: &[&str] = &[
     "a", "a/1", "a/12", "a/2", "a/3", "b", "b/1", "b/2", "c/1", "c/2", "c/3", "d",
 ];
+
 const PREFIXES: &[&str] = &["", "a", "a/", "b/", "c/", "c/2", "d"];
 
 /// Whether a scan of the tree finds the first of what one of the map does, and something where that
@@ -130,8 +132,14 @@ fn scans_after_generated_messages(rt: HostRuntime) -> Result<(), Fail> {
         let from = *numbers.pick(KEYS)?;
         let within = *numbers.pick(PREFIXES)?;
         for most in [1, 3, 64] {
-            assert!(rt; is_front(rt.alloc(), &mut both, from, within, most)?, "{number}");
-            assert!(rt; is_front(rt.alloc(), &mut both, "", within, most)?, "{number}");
+            assert!(rt;
+                is_front(rt.alloc(), &mut both, from, within, most)?,
+                "{number}"
+            );
+            assert!(rt;
+                is_front(rt.alloc(), &mut both, "", within, most)?,
+                "{number}"
+            );
         }
     }
     Ok(())

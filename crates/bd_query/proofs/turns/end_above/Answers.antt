@@ -33,4 +33,3 @@ returns-clause-inside c most h k begins within =
     end_above_inside c.args.key.now c.args.source.now c.args.lift most c.args.end None k c.requires
     (subst (λ (e : Option (List ℕ)). IsRaised (take c.args.lift c.args.key.now) c.args.source.now e None) (sym c.in-Some.is)
     (past_all c.in-Some.end (λ starts. not_both (c.starts.ensures.1 (subst (λ (l : List ℕ). Begins l c.args.source.now) (sym c.as_slice.ensures) starts)) c.if-starts.false))) h begins within
-

@@ -32,10 +32,9 @@ returns-in_ok-below-in-Passed-clause-turn c most passes at child asked empty =
       one = c.lesser-end.ensures.one;
     }) asked (subst (λ (t : Turn). IsTurn child (c.args.source.now ++ drop c.args.lift c.args.key.now) t) c.in-Passed.is empty)
 
-
 pub returns-in_ok-run-in-Run-clause-turn : goal.returns-in_ok-run-in-Run-clause-turn
 returns-in_ok-run-in-Run-clause-turn c most passes at child asked found =
     raised_turn at child c.args.key.now c.args.source.now c.args.end c.args.lift c.in-Run.entries c.in_ok-run-in-Run.run' c.run_or_end.result asked c.requires.long (λ i. omega (arith, c.type_inv.source i))
     (subst (λ (t : Turn). IsTurn child (c.args.source.now ++ drop c.args.lift c.args.key.now) t) c.in-Run.is found)
     (subst (λ (l : List ℕ). c.in_ok-run-in-Run.run' ≡ raised_run c.args.end l c.args.source.now c.in-Run.entries) c.front.ensures c.in_ok-run-in-Run.ensures.run) c.in_ok-run-in-Run.ensures.keys
-    (record { some = c.run_or_end.ensures.some; none = c.run_or_end.ensures.none; })
+    (record { some = c.run_or_end.ensures.some; none = c.run_or_end.ensures.none })
