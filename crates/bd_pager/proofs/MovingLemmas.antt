@@ -33,7 +33,9 @@ use Rattle.bd_pager.specs.Changing.{slot_if, own_slot}
 use Rattle.bd_pager.specs.Counting.{AreUnused, is_in_memory, is_in_memory_at, has_own, moved, recounted, AreListed, IsListed, IsTallied}
 use Rattle.bd_node.proofs.Sums.{sum_some}
 use Rattle.bd_pager.specs.Moving.{copy_if, freed_at, freed_in, stored_at, IsCachedMore, AreEarlier, IsBefore, IsEarliest, IfSpot, IsHeldAt, IsMovedAt, IsOfPlace, IsOfSpot, IsReservedPlace, IsReservedAt, IsWritablePlace, OnlyMoves}
-use Rattle.bd_pager.specs.Slots.{slot_bytes, HasNode, IsOfLevel, IsOfSlot, IsSpare}
+use Rattle.bd_tails.specs.Tails.{slot_bytes, IsOfSlot}
+use Rattle.bd_format.specs.Slots.{HasNode}
+use Rattle.bd_pager.specs.Slots.{IsOfLevel, IsSpare}
 use Rattle.bd_pager.specs.Places.{Spots, refs_in, level_in, slot_at, slot_in, copy_at, copy_in, node_at, node_of, told, IsReadAt, IsRead, AreCached, ArePlaced}
 use Rattle.bd_pager.specs.Pagers.{is_changed, is_changed_place, IsRightPlace, IsPlaceIn}
 use Rattle.bd_pager.proofs.CountingLemmas.{flag, count_again, count_kept, count_moved, flag_count, flag_here, flag_other, unused_moved, placed_unused, placed_tallied}

@@ -12,7 +12,7 @@ use Rattle.std.proofs.lemmas.List.{get_or_default}
 use Rattle.bd_device.specs.Blocks.{Image}
 use Rattle.bd_device.specs.Changes.{StaysBut}
 use Rattle.bd_slots.specs.Layout.{slot_block}
-use Rattle.bd_tails.specs.Tails.{used_of, AreTails, AreForgotten}
+use Rattle.bd_tails.specs.Tails.{used_of, AreTails, AreForgotten, IsOfSlot}
 use Rattle.bd_tails.specs.declared.tails.Tails.{Tails}
 use Rattle.bd_tails.proofs.Known.{zero_stays}
 use Rattle.bd_pager.specs.declared.draft.Draft.{Draft}
@@ -27,7 +27,7 @@ use Rattle.bd_pager.specs.Drafts.{AreKeptIds, HaveTable, IsDraftOf}
 use Rattle.bd_pager.specs.Moving.{OnlyMoves}
 use Rattle.bd_pager.specs.Pagers.{Paged, spots_of, is_changed, is_changed_place, IsPaged, IsReady}
 use Rattle.bd_pager.specs.Places.{Spots, refs_in, level_in, slot_at, slot_in}
-use Rattle.bd_pager.specs.Slots.{IsOfSlot, IsSpare}
+use Rattle.bd_pager.specs.Slots.{IsSpare}
 use Rattle.bd_pager.proofs.CountingLemmas.{flag, flag_small, count_kept}
 use Rattle.bd_pager.proofs.KeptLemmas.{sum_le}
 use Rattle.bd_pager.proofs.MovingLemmas.{by_memory, AreApartFrom}
