@@ -3,7 +3,7 @@ use Rattle.std.proofs.Common.{◌≡◌, ◌≤◌, ◌<◌, ◌+◌, ◌/◌, �
 use Rattle.std.specs.Prelude.{All, slice_get}
 use Rattle.std.proofs.lemmas.Bool.{true≢false}
 use Rattle.std.proofs.lemmas.Option.{get_or_from_slice_get}
-use Rattle.bd_slots.specs.Slots.{IsFree, free_count}
+use Rattle.bd_slots.specs.Slots.{IsFree, free_count, slot_if}
 use Rattle.bd_device.specs.Blocks.{Image}
 use Rattle.bd_device.specs.declared.device.Device.{Ghosts}
 use Rattle.bd_node.proofs.Sums.{sum_at}
@@ -21,7 +21,7 @@ use Rattle.bd_pager.specs.declared.place.Place.TheVariants.{Memory, Slot}
 use Rattle.bd_pager.specs.declared.place.Spot.{Spot}
 use Rattle.bd_pager.specs.declared.usage.Usage.{Usage}
 use Rattle.bd_pager.specs.declared.written.Written.{Written}
-use Rattle.bd_pager.specs.Changing.{slot_if, own_slot}
+use Rattle.bd_pager.specs.Changing.{own_slot}
 use Rattle.bd_pager.specs.Counting.{AreBelow, AreUnused, has_own, is_in_memory, spot_count, IsTallied}
 use Rattle.bd_pager.specs.Drafts.{AreKeptIds, HaveTable, IsDraftOf}
 use Rattle.bd_pager.specs.Moving.{OnlyMoves}
