@@ -1,7 +1,7 @@
 """Formats and checkpoints, through the whole program: an image's first bytes, checkpoints in turn, and what they leave
 where they are stopped at each call of the device."""
 from plain import PlainMap
-from tests.volume import TEARS, calls_before, cut, reply_of, script, told, unsynced
+from volume import TEARS, calls_before, cut, reply_of, script, told
 
 BLOCK, SLOTS, BLOCKS = 4096, 24, 516
 FIRST_LOG_BLOCK = 4
@@ -97,7 +97,7 @@ def stopped_checkpoints(rows, report):
     is committed, and with both committed."""
     for saves in range(len(MADE)):
         lines = [line for made in MADE[:saves] for line in (made, "checkpoint")] + [MADE[saves]]
-        before, after = calls_before(rows, lines, SLOTS), calls_before(rows, lines + ["checkpoint"], SLOTS)
+        before, after = calls_before(rows, [lines, lines + ["checkpoint"]], SLOTS)
         report(after > before, f"engine: a checkpoint makes calls: {saves}")
         stops = [(passed, torn) for passed in range(before, after + 1) for torn in TEARS]
         calls = rows.show("".join(stopped_row(lines + ["checkpoint"], *stop) for stop in stops))
@@ -108,10 +108,18 @@ def stopped_checkpoints(rows, report):
             report(is_such and (left[1] or left[0] and not is_done),
                    f"engine: checkpoint {saves} stopped after {passed} calls: {torn}: {again.written}")
         report(len(calls) == 2 * len(stops), f"engine: stopped checkpoints were run: {saves}")
+        told(rows, report, "".join(stopped_row(lines + ["checkpoint"], *stop, again.acks[0])
+                                   for stop, again in zip(stops, calls[1::2]) if again.acks))
 
 
-def stopped_row(lines, passed, torn):
-    return f"# stopped after {passed} calls, {torn}\n-- run\n{cut(passed, torn)}{script(lines)}-- again\n> list /\n"
+def stopped_row(lines, passed, torn, count=None):
+    """A run that is stopped, and what the superblock has that a count of commands tells of, or else what is listed."""
+    text = f"# a checkpoint stopped after {passed} calls, {torn}\n-- run\n{cut(passed, torn)}"
+    if count is None:
+        return f"{text}{script(lines)}-- again\n> list /\n"
+    body = 3 if count % 2 else 1
+    left = f"-- bytes {body - 1} 0 01\n-- bytes {body} 16 {number(count + 1)}{number(count)}\n"
+    return f"{text}-- show\n{script(lines)}{left}"
 
 
 def listed(count):

@@ -1,12 +1,12 @@
-"""A volume on an image, through the whole program: lines beside the plain map over new starts, what it keeps where it is
-cut off at each call of the device, and what it says where slots are short."""
+"""A volume on an image, through the whole program: lines beside the plain map over new starts, what it keeps where it
+is cut off at calls of the device, and what it says where slots are short."""
 import re
 import tempfile
 from pathlib import Path
 
 from plain import PlainMap
 from session import Session
-from tests import generated
+import generated
 
 TEARS = ["old", "new", "0", "1", "255"]
 SERVICES = ("sync", "checkpoint", "reclaim")
@@ -52,13 +52,13 @@ def written(call, status, last):
     return call.written[:-1] if is_such else None
 
 
-def calls_before(rows, lines, slots, first=""):
-    """How many calls of the device a run makes up to the end of these lines, without the last sync."""
-    text = f"# calls\n-- slots {slots}\n{first}-- run\n{unsynced(lines)}{script(lines)}"
-    call = rows.show(text)[-1]
-    if call.written[-1:] != ["fault source"]:
-        raise ValueError(f"{call.written[-1:]} at the end of a run whose source fails")
-    return call.calls
+def calls_before(rows, scripts, slots):
+    """How many calls of the device a run makes up to the end of the lines of each script, without the last sync."""
+    calls = rows.show("".join(
+        f"# calls\n-- slots {slots}\n-- run\n{unsynced(lines)}{script(lines)}" for lines in scripts))
+    if any(call.written[-1:] != ["fault source"] for call in calls):
+        raise ValueError("a run whose source fails ends otherwise")
+    return [call.calls for call in calls]
 
 
 class Kept:
@@ -148,9 +148,10 @@ def early_nodes(rows, report):
         f"-- begins {block} 00\n" for block in range(2, 132))
     end = f"-- status 5\n-- acks none\n{unsynced(lines + ['df'])}"
     replies = "".join(f"> {short(line)}\nok\n" for line in lines) + "> df\nok free 254 of 256\nfault source\n"
-    told(rows, report, f"# nodes are written early\n-- slots 256\n-- run\n{end}{replies}{stay}-- bytes 164 0 42444e31\n")
-    early = calls_before(rows, lines, 256) - calls_before(rows, lines[:1], 256)
-    report(early >= 16, f"volume: nodes are written early: {early} calls")
+    begun = "# nodes are written early\n-- slots 256\n-- run\n"
+    told(rows, report, f"{begun}{end}{replies}{stay}-- bytes 164 0 42444e31\n")
+    before, after = calls_before(rows, [lines[:1], lines], 256)
+    report(after - before >= 16, f"volume: nodes are written early: {after - before} calls")
 
 
 def told(rows, report, text):
@@ -166,12 +167,12 @@ def calls_of_syncs(rows, report):
     """A sync with nothing waiting makes no call of the device, and a command whose record has room none but a
     checkpoint's."""
     lines = ["mkdir /a", "sync"]
-    calls = [calls_before(rows, lines + ["sync"] * more, 24) for more in range(2)]
+    calls = calls_before(rows, [lines, lines + ["sync"]], 24)
     report(calls[0] == calls[1], f"volume: a sync with nothing waiting makes no call: {calls}")
     name = "n" * 255
     lines = [f"mkdir /{name}", f"create /{name}/{name}"] + [
         f"write /{name}/{name} {at} {'5a' * 2048}" for at in range(99)]
-    calls = [calls_before(rows, lines[:count], 256) for count in range(len(lines) + 1)]
+    calls = calls_before(rows, [lines[:count] for count in range(len(lines) + 1)], 256)
     for count in range(1, len(calls)):
         is_last = count == len(lines)
         report((calls[count] > calls[count - 1]) == is_last, f"volume: calls of a log that fills: line {count}")
@@ -183,7 +184,7 @@ def cut_off_lines(rows, report):
     for made, line in enumerate(generated.lines(5, 600), 1):
         lines += [line] + (["checkpoint"] if made % 200 == 0 else ["sync"] if made % 20 == 0 else [])
     kept = Kept(lines, generated.questions())
-    before, after = calls_before(rows, [], 40), calls_before(rows, lines, 40)
+    before, after = calls_before(rows, [[], lines], 40)
     report(len(lines) == 630 and after - before >= 500, f"volume: lines that are cut off: {after - before} calls")
     for torn in TEARS:
         stops = range(before, after, 5)
@@ -206,7 +207,7 @@ LEFT = [("ok", "ok a/"), ("ok", "ok a/"), ("ok a/", "ok a/ b/"), ("ok a/", "ok a
 
 def stopped_syncs(rows, report):
     """Two syncs that are stopped at each call: the second directory is never there without the first one."""
-    before, after = calls_before(rows, [], 24), calls_before(rows, SYNCED, 24)
+    before, after = calls_before(rows, [[], SYNCED], 24)
     report(after - before == 10, f"volume: two syncs make ten calls: {after - before}")
     stops = [(passed, torn) for passed in range(before, after + 1) for torn in TEARS]
     calls = rows.show("".join(cut_off_row(SYNCED, ["list /"], 24, *stop) for stop in stops))
