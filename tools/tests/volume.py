@@ -1,6 +1,7 @@
 """A volume on an image, through the whole program: lines beside the plain map over new starts, what it keeps where it
 is cut off at calls of the device, and what it says where slots are short."""
 import re
+import subprocess
 import tempfile
 from pathlib import Path
 
@@ -12,7 +13,6 @@ TEARS = ["old", "new", "0", "1", "255"]
 SERVICES = ("sync", "checkpoint", "reclaim")
 READS = ("read", "stat", "list")
 PIECE = 4096
-GREATEST_SCRIPT = 16_777_216
 
 
 def reply_of(tree, line):
@@ -112,7 +112,7 @@ def answers_alike(rows, report, folder):
 
 def new_image(rows, folder, name, slots):
     image = str(Path(folder) / name)
-    rows.call(["format", image, str(slots)])
+    subprocess.run([rows.betr, "format", image, str(slots)], stdout=subprocess.DEVNULL, check=True)
     return image
 
 
