@@ -365,6 +365,8 @@ impl<'t> Bench<'t> {
 
     /// Shows the blocks of the device that aren't zeros, without the zeros at their ends.
     fn show_image(&mut self) -> Result<(), AllocError> {
+        let label = self.label;
+        writeln!(self.report, "@@ {label}")?;
         for block in 0..self.blocks {
             if let Some(bytes) = block_in(&mut self.dev, block) {
                 self.show_block(block, front(&bytes))?;

@@ -2,8 +2,9 @@
 
 use crate::ends::{KeepingSink, ScriptSource};
 use crate::plan::Plan;
-use bd_calls::{Ack, run};
+use bd_calls::run;
 use bd_device::{Device, FaultyDevice, FuseDevice, MemDevice};
+use bd_shell::Ack;
 use std::alloc::{AllocError, Global};
 use std::cell::Cell;
 
