@@ -100,26 +100,26 @@ def stopped_checkpoints(rows, report):
         before, after = calls_before(rows, [lines, lines + ["checkpoint"]], SLOTS)
         report(after > before, f"engine: a checkpoint makes calls: {saves}")
         stops = [(passed, torn) for passed in range(before, after + 1) for torn in TEARS]
-        calls = rows.show("".join(stopped_row(lines + ["checkpoint"], *stop) for stop in stops))
-        for (passed, torn), run, again in zip(stops, calls[::2], calls[1::2]):
+        shown = rows.show("".join(stopped_row(lines + ["checkpoint"], *stop) for stop in stops))
+        for (passed, torn), run, image, again in zip(stops, shown[::3], shown[1::3], shown[2::3]):
             is_done = run.written.count("ok") == len(lines) + 1
-            is_such = is_done == (passed == after)
-            left = [(again.acks, again.written) == ([count], [listed(count)]) for count in (saves, saves + 1)]
-            report(is_such and (left[1] or left[0] and not is_done),
+            is_old, is_new = (is_left(image, again, count) for count in (saves, saves + 1))
+            report(is_done == (passed == after) and (is_new or is_old and not is_done),
                    f"engine: checkpoint {saves} stopped after {passed} calls: {torn}: {again.written}")
-        report(len(calls) == 2 * len(stops), f"engine: stopped checkpoints were run: {saves}")
-        told(rows, report, "".join(stopped_row(lines + ["checkpoint"], *stop, again.acks[0])
-                                   for stop, again in zip(stops, calls[1::2]) if again.acks))
+        report(len(shown) == 3 * len(stops), f"engine: stopped checkpoints were run: {saves}")
 
 
-def stopped_row(lines, passed, torn, count=None):
-    """A run that is stopped, and what the superblock has that a count of commands tells of, or else what is listed."""
-    text = f"# a checkpoint stopped after {passed} calls, {torn}\n-- run\n{cut(passed, torn)}"
-    if count is None:
-        return f"{text}{script(lines)}-- again\n> list /\n"
+def stopped_row(lines, passed, torn):
+    label = f"a checkpoint stopped after {passed} calls, {torn}"
+    return f"# {label}\n-- run\n{cut(passed, torn)}{script(lines)}-- image\n-- again\n> list /\n"
+
+
+def is_left(image, again, count):
+    """Whether the checkpoint of so many commands is left: its superblock, the count, and what is listed."""
     body = 3 if count % 2 else 1
-    left = f"-- bytes {body - 1} 0 01\n-- bytes {body} 16 {number(count + 1)}{number(count)}\n"
-    return f"{text}-- show\n{script(lines)}{left}"
+    committed, superblock = image.block(body - 1)[0], image.block(body).hex()
+    is_such = committed == 1 and superblock[32:64] == number(count + 1) + number(count)
+    return is_such and (again.acks, again.written) == ([count], [listed(count)])
 
 
 def listed(count):
@@ -130,8 +130,7 @@ def listed(count):
 def stopped_formats(rows, report):
     """A format that is stopped leaves the old tree, none or the new one, on zeros and on an image of another tree."""
     for has_image in (False, True):
-        old = ["> mkdir /a\n> checkpoint\n"] if has_image else []
-        begun = "".join(old) if has_image else f"-- blank {SLOTS}\n"
+        begun = "> mkdir /a\n> checkpoint\n" if has_image else f"-- blank {SLOTS}\n"
         every = rows.show(f"# a format\n{begun}-- format {SLOTS}\n")[-1].calls
         stops = [(passed, torn) for passed in range(every + 1) for torn in TEARS]
         count = 3 if has_image else 2
@@ -139,11 +138,10 @@ def stopped_formats(rows, report):
             f"# stopped after {passed} calls, {torn}\n{begun}-- format {SLOTS}\n{cut(passed, torn)}-- again\n> list /\n"
             for passed, torn in stops))
         for (passed, torn), made, again in zip(stops, calls[count - 2::count], calls[count - 1::count]):
-            is_done = made.status == 0
-            is_old = has_image and again.written == ["ok a/"]
-            report(is_done == (passed == every) and (
-                again.written == ["ok"] or not is_done and (is_old or is_none(again))),
-                f"engine: a format stopped after {passed} calls: {torn}: {has_image}: {again.written}")
+            is_done, is_old = made.status == 0, has_image and again.written == ["ok a/"]
+            is_such = again.written == ["ok"] or not is_done and (is_old or is_none(again))
+            report(is_done == (passed == every) and is_such,
+                   f"engine: a format stopped after {passed} calls: {torn}: {has_image}: {again.written}")
         report(len(calls) == count * len(stops), f"engine: stopped formats were run: {has_image}")
 
 
