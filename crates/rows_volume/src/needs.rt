@@ -8,6 +8,7 @@ use bd_script::{Line, read_line};
 use bd_slots::image_blocks;
 use bd_volume::{Refused, Volume};
 use std::alloc::Global;
+use std::process::Abort;
 use std::test::Fail;
 
 /// The slots of the images.
@@ -47,13 +48,18 @@ fn need<D: Device>(volume: &mut Volume<D>, command: &Command) -> Result<u64, Fai
     }
 }
 
+/// Whether commands need as many slots as they are said to.
+fn are_needed(rt: &impl Abort, alloc: Global, volume: &mut Volume<MemDevice>) -> Result<(), Fail> {
+    for (line, want) in NEEDS {
+        let found = need_of(alloc, volume, line)?;
+        assert_eq!(rt; found, *want, "{line}");
+    }
+    Ok(())
+}
+
 #[test]
 fn a_command_needs_slots(rt: HostRuntime) -> Result<(), Fail> {
     let device = MemDevice::new(rt.alloc(), image_blocks(SLOTS), 2_000, &[])?;
     let mut volume = on_new_image(rt.alloc(), device)?;
-    for (line, want) in NEEDS {
-        let found = need_of(rt.alloc(), &mut volume, line)?;
-        assert_eq!(rt; found, *want, "{line}");
-    }
-    Ok(())
+    are_needed(&rt, rt.alloc(), &mut volume)
 }
