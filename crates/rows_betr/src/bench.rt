@@ -3,7 +3,7 @@
 use crate::blocks::{block_in, blocks_of, copied, flip_byte, front, set_bytes, zeros};
 use crate::braces::expand;
 use crate::plan::{Plan, number_before};
-use crate::told::{Told, call};
+use crate::told::{Told, call, format};
 use bd_device::{Device, MemDevice};
 use std::alloc::{AllocError, Global};
 
@@ -265,17 +265,15 @@ impl<'t> Bench<'t> {
         self.is_made = true;
         self.dev = zeros(self.alloc, self.blocks)?;
         match self.slots {
-            Some(slots) => self.format(slots),
+            Some(slots) => self.make_image(slots),
             None => Ok(()),
         }
     }
 
     /// Makes an image of so many slots.
-    fn format(&mut self, slots: u64) -> Result<(), AllocError> {
+    fn make_image(&mut self, slots: u64) -> Result<(), AllocError> {
         let slots = format!(in self.alloc; "{slots}")?;
-        let plan = Plan::new("betr format img", slots.as_str(), self.line);
-        let _told = call(self.alloc, &mut self.dev, &plan, b"")?;
-        Ok(())
+        format(self.alloc, &mut self.dev, slots.as_str())
     }
 
     /// Changes the device. Whether the directive is one that does.
@@ -423,7 +421,12 @@ impl<'t> Bench<'t> {
     /// Shows a call.
     fn show(&mut self, told: &Told) -> Result<(), AllocError> {
         let label = self.label;
-        let Told { status, calls, faults, .. } = told;
+        let Told {
+            status,
+            calls,
+            faults,
+            ..
+        } = told;
         let acks = told.acks.as_str();
         write!(self.report, "= {label} status {status} acks {acks} ")?;
         writeln!(self.report, "calls {calls} faults {faults}")?;
@@ -467,7 +470,10 @@ impl<'t> Bench<'t> {
         self.is_wrong = true;
         let (file, label) = (self.file, self.label);
         write!(self.report, "{file}:{line}: {label}: ")?;
-        writeln!(self.report, "found \"{what} {found}\", not \"{what} {want}\"")
+        writeln!(
+            self.report,
+            "found \"{what} {found}\", not \"{what} {want}\""
+        )
     }
 
     /// Compares a text.

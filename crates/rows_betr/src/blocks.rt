@@ -78,12 +78,11 @@ pub fn copied(alloc: Global, from: &mut MemDevice) -> Result<MemDevice, AllocErr
 
 /// The front of a block without the zeros at its end.
 pub fn front(bytes: &[u8]) -> &[u8] {
-    let mut front = bytes;
-    while let Some((last, rest)) = front.split_last() {
-        if *last != 0 {
-            break;
+    let mut end = 0usize;
+    for (at, byte) in bytes.iter().enumerate() {
+        if *byte != 0 {
+            end = at.saturating_add(1);
         }
-        front = rest;
     }
-    front
+    bytes.get(..end).unwrap_or(bytes)
 }

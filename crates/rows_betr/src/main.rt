@@ -10,10 +10,8 @@ mod plan;
 mod told;
 
 use bench::{Bench, Counts};
-use std::env;
-use std::fs;
-use std::io;
 use std::process::ExitCode;
+use std::{env, fs, io};
 
 /// The status where a row differs.
 const DIFFERS: u8 = 1;

@@ -2,8 +2,9 @@
 
 use crate::ends::{KeepingSink, ScriptSource};
 use crate::plan::Plan;
-use bd_calls::run;
+use bd_calls::{row, run};
 use bd_device::{Device, FaultyDevice, FuseDevice, MemDevice};
+use bd_io::MemSink;
 use bd_shell::Ack;
 use std::alloc::{AllocError, Global};
 use std::cell::Cell;
@@ -36,6 +37,17 @@ impl Drop for Told {
             written: _,
         } = self;
     }
+}
+
+/// How many bytes there is room for where an image is made.
+const ROOM: usize = 1 << 10;
+
+/// Makes an image of so many slots on a device.
+pub fn format(alloc: Global, dev: &mut MemDevice, slots: &str) -> Result<(), AllocError> {
+    let words = Plan::new("betr format img", slots, 0).words(alloc)?;
+    let mut sink = MemSink::new(alloc, ROOM, &[])?;
+    let _outcome = row(alloc, dev, &words, b"", &mut sink)?;
+    Ok(())
 }
 
 /// Makes a call over a device, of which these calls fail.
