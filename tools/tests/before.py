@@ -1,7 +1,7 @@
 """Clones, a full image and long paths: after each line each path reads as the plain map has it."""
 import re
 
-from script import Lines, Plain, questions
+from script import Lines, Plain, compare, questions
 
 FULL = re.compile(r"full (\d+) (\d+)")
 
@@ -107,7 +107,7 @@ def full(rows, report):
 def test(rows, report):
     made = ["mkdir /d", "create /d/f"] + pieces("/d/f", 12)
     asked = questions(CLONED, reads(28_672))
-    rows.compare(row("clones read as before", 80, made + asked_after(CLONES, asked)), report)
+    compare(rows, row("clones read as before", 80, made + asked_after(CLONES, asked)), report)
     asked = with_names(questions(LONG_PATHS))
-    rows.compare(row("long paths read as before", 24, asked_after(with_names(LONG), asked)), report)
+    compare(rows, row("long paths read as before", 24, asked_after(with_names(LONG), asked)), report)
     full(rows, report)

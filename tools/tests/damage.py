@@ -4,8 +4,9 @@ One number of a rich image is another one, in 2,000 images; and one byte of a ne
 """
 import re
 
-from fields import BLOCK, changes, fields_of
+from fields import changes, fields_of
 from rich import RICH, SLOTS, image_of, set_blocks
+from script import compare
 
 NUMBERS = 400
 
@@ -143,7 +144,7 @@ def full_bytes(rows, report):
                 else:
                     text += ["> stat /", answer]
             place = end
-    rows.compare("\n".join(text) + "\n", report)
+    compare(rows, "\n".join(text) + "\n", report)
 
 
 def test(rows, report):

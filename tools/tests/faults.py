@@ -129,7 +129,8 @@ class Script:
         return None
 
     def stopped(self, rows, report, hows):
-        """Runs the lines once in each of these ways, each of which stops them, and asks what is left."""
+        """Runs the lines once in each of these ways, each of which stops them, and asks what is left. At which lines
+        they were stopped."""
         text = self.begun()
         for how in hows:
             text += self.run(*how) + self.ask()
@@ -137,6 +138,7 @@ class Script:
         for how, stopped, asked in zip(hows, calls[::2], calls[1::2]):
             wrong = self.wrong(stopped, asked)
             report(wrong is None, f"{self.label}: {how}: {wrong}")
+        return {len(stopped.written) - 1 for stopped in calls[::2]}
 
 
 def cut_off(rows, report, script, least, step):
@@ -147,7 +149,9 @@ def cut_off(rows, report, script, least, step):
     cuts = range(1, (calls or 0) + 1, step)
     hows = [[f"-- fuse {cut} {how}"] for index, cut in enumerate(cuts)
             for how in (TEARS if step == 1 else [TEARS[index % len(TEARS)]])]
-    script.stopped(rows, report, hows)
+    at = script.stopped(rows, report, hows)
+    early = sum(line in at for line, text in enumerate(script.lines.lines) if text.startswith("write "))
+    report(step == 1 or early >= 5, f"{script.label}: {early} lines wrote nodes early")
 
 
 def failing(rows, report, script, least):

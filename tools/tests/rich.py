@@ -21,9 +21,9 @@ def image_of(rows):
     """The bytes of the image, which the program makes."""
     with tempfile.TemporaryDirectory() as folder:
         image = Path(folder) / "image"
-        subprocess.run([rows.program, "format", image, str(SLOTS)], stdout=subprocess.DEVNULL, check=True)
+        subprocess.run([rows.betr, "format", image, str(SLOTS)], stdout=subprocess.DEVNULL, check=True)
         script = "".join(line + "\n" for line in RICH.expanded())
-        subprocess.run([rows.program, "run", image], input=script.encode(), stdout=subprocess.DEVNULL, check=True)
+        subprocess.run([rows.betr, "run", image], input=script.encode(), stdout=subprocess.DEVNULL, check=True)
         return image.read_bytes()
 
 

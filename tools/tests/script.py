@@ -51,3 +51,12 @@ def questions(paths, reads=("0 4096",)):
     """The questions on paths: what stands there, its names, and some of its bytes."""
     return [f"{verb} {path}{rest}" for path in paths
             for verb, rest in [("stat", ""), ("list", "")] + [("read", " " + words) for words in reads]]
+
+
+def compare(rows, text, report):
+    """Runs rows, and reports those that pass and each line that differs."""
+    passed, differing = rows.differ(text)
+    for _ in range(passed):
+        report(True, "")
+    for line in differing:
+        report(False, line)

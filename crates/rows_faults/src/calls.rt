@@ -13,18 +13,16 @@ use std::alloc::Global;
 use std::process::Abort;
 use std::test::Fail;
 
-/// How many writes a device has room for.
-const WRITES: usize = 12_000;
-
-/// A volume on a new image of so many slots, of whose device this call fails, which is a later one:
-/// so it is made, or there is no memory.
+/// A volume on a new image of so many slots, of whose device, which has room for so many writes, this
+/// call fails, which is a later one: so it is made, or there is no memory.
 pub fn formatted(
     rt: &impl Abort,
     alloc: Global,
     slots: u32,
+    writes: usize,
     call: u64,
 ) -> Result<Volume<MemDevice>, Fail> {
-    let device = MemDevice::new(alloc, image_blocks(slots), WRITES, &[call])?;
+    let device = MemDevice::new(alloc, image_blocks(slots), writes, &[call])?;
     if slots < MIN_SLOTS || slots > MAX_SLOTS || device.blocks() != image_blocks(slots) {
         return Err(Fail::new("no image of so many slots"));
     }
@@ -43,7 +41,7 @@ pub fn keeps(line: &str) -> bool {
 }
 
 /// The text of what a volume answers to a line.
-pub fn said(alloc: Global, volume: &mut Volume<MemDevice>, line: &str) -> Result<String, Fail> {
+pub fn said<D: Device>(alloc: Global, volume: &mut Volume<D>, line: &str) -> Result<String, Fail> {
     match line {
         "sync" => done(alloc, volume.sync()),
         "checkpoint" => done(alloc, volume.checkpoint()),
@@ -53,9 +51,9 @@ pub fn said(alloc: Global, volume: &mut Volume<MemDevice>, line: &str) -> Result
 }
 
 /// The text of what a volume answers to a line with a command.
-fn executed_line(
+fn executed_line<D: Device>(
     alloc: Global,
-    volume: &mut Volume<MemDevice>,
+    volume: &mut Volume<D>,
     line: &str,
 ) -> Result<String, Fail> {
     match read_line(alloc, line.as_bytes()) {
@@ -65,9 +63,9 @@ fn executed_line(
 }
 
 /// The text of what a volume answers to a command.
-fn executed(
+fn executed<D: Device>(
     alloc: Global,
-    volume: &mut Volume<MemDevice>,
+    volume: &mut Volume<D>,
     command: &Command,
 ) -> Result<String, Fail>
     requires { IsCommand command.now }

@@ -14,6 +14,9 @@ use std::io::{Eprint, Print};
 use std::process::{Abort, Termination};
 use std::test::Fail;
 
+/// How many writes a device has room for.
+const WRITES: usize = 12_000;
+
 /// What a line is answered for which there is no memory.
 const NO_MEMORY: &str = "there is no memory";
 
@@ -191,7 +194,7 @@ impl Pair {
         Ok(Pair {
             questions: questions(alloc, script)?,
             tree: PlainTree::new(alloc)?,
-            volume: formatted(rt, alloc, script.slots, u64::MAX)?,
+            volume: formatted(rt, alloc, script.slots, WRITES, u64::MAX)?,
             refused: 0,
         })
     }
