@@ -28,7 +28,7 @@ LINES = [
     "read /l/f 0 4",
 ]
 
-REPLY = re.compile(r"ok( .*)?|no ([1-9]|10) [a-z-]+|full \d+ of \d+|full \d+ \d+")
+REPLY = re.compile(r"ok( .*)?|no ([1-9]|10) [a-z-]+|full \d+ \d+")
 DAMAGED = re.compile(r"fault damaged (\d+)")
 WORN = re.compile(r"fault worn (level|id|refs|flushes|count|epoch)")
 

@@ -165,5 +165,5 @@ def failing(rows, report, script, least):
 
 def test(rows, report):
     cut_off(rows, report, Script("a short script", 24, SHORT, SHORT_QUESTIONS), 100, 1)
-    cut_off(rows, report, Script("a long script", 80, LONG, LONG_QUESTIONS), 1_000, 7)
+    cut_off(rows, report, Script("a long script", 80, LONG, LONG_QUESTIONS), 500, 7)
     failing(rows, report, Script("lines on a rich image", SLOTS, MORE, MORE_QUESTIONS, RICH), 300)

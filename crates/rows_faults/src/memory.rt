@@ -204,7 +204,7 @@ impl Pair {
         for question in &self.questions {
             let found = said(alloc, &mut self.volume, question)?;
             let want = wanted(alloc, &mut self.tree, question)?;
-            assert_eq!(rt; found, want, "{line}: {question}");
+            assert_eq!(rt; found.as_str(), want.as_str(), "{line}: {question}");
         }
         Ok(())
     }
@@ -227,7 +227,7 @@ impl Pair {
             return Ok(false);
         }
         let want = wanted(alloc, &mut self.tree, line)?;
-        assert_eq!(rt; found, want, "{line}");
+        assert_eq!(rt; found.as_str(), want.as_str(), "{line}");
         Ok(true)
     }
 

@@ -120,7 +120,7 @@ fn started_at_last(alloc: Global, device: MemDevice) -> Result<Volume<MemDevice>
 fn every(alloc: Global, first: u64) -> Result<Vec<u64>, Fail> {
     let mut calls = Vec::new(alloc);
     for index in 0..200 {
-        calls.push(first.saturating_add(GAP * index))?;
+        calls.push(first.saturating_add(GAP.saturating_mul(index)))?;
     }
     Ok(calls)
 }
