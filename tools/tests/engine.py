@@ -68,11 +68,15 @@ def alike(tree, lines):
 
 
 def opened_again(rows, report):
-    """A checkpoint of commands of each kind and of a file of 60 pieces is opened again."""
-    tree = PlainMap()
-    text = f"# a checkpoint is opened again\n-- run\n-- acks 70\n{alike(tree, LINES + PIECES)}> checkpoint\nok\n"
-    text += f"-- begins 2 01\n-- bytes 1 16 {number(1)}\n-- bytes 3 16 {number(2)}{number(70)}\n"
-    told(rows, report, text + f"-- again\n-- acks 70\n{alike(tree, ASKED)}")
+    """A checkpoint of commands of each kind and of a file of 60 pieces is opened again. On 24 slots the commands have
+    made checkpoints before it, and on 64 it is the first one."""
+    for slots in (24, 64):
+        tree = PlainMap()
+        text = f"# a checkpoint of {slots} slots is opened again\n-- slots {slots}\n-- run\n-- acks 70\n"
+        text += f"{alike(tree, LINES + PIECES)}> checkpoint\nok\n"
+        if slots == 64:
+            text += f"-- begins 2 01\n-- bytes 1 16 {number(1)}\n-- bytes 3 16 {number(2)}{number(70)}\n"
+        told(rows, report, text + f"-- again\n-- acks 70\n{alike(tree, ASKED)}")
 
 
 def large_file(rows, report):

@@ -165,18 +165,16 @@ def told(rows, report, text):
 
 
 def calls_of_syncs(rows, report):
-    """A sync with nothing waiting makes no call of the device, and a command whose record has room none but a
-    checkpoint's."""
+    """A sync with nothing waiting makes no call of the device, nor does one of the commands for whose records a half
+    of the log has room; the next one does."""
     lines = ["mkdir /a", "sync"]
     calls = calls_before(rows, [lines, lines + ["sync"]], 24)
     report(calls[0] == calls[1], f"volume: a sync with nothing waiting makes no call: {calls}")
     name = "n" * 255
     lines = [f"mkdir /{name}", f"create /{name}/{name}"] + [
         f"write /{name}/{name} {at} {'5a' * 2048}" for at in range(99)]
-    calls = calls_before(rows, [lines[:count] for count in range(len(lines) + 1)], 256)
-    for count in range(1, len(calls)):
-        is_last = count == len(lines)
-        report((calls[count] > calls[count - 1]) == is_last, f"volume: calls of a log that fills: line {count}")
+    none, filled, past = calls_before(rows, [[], lines[:-1], lines], 256)
+    report(none == filled < past, f"volume: calls of a log that fills: {none}, {filled}, {past}")
 
 
 def cut_off_lines(rows, report):
