@@ -169,7 +169,7 @@ fn read_again(
         Ok(()) => {
             let device = volume.into_device();
             assert!(rt;
-                device.faults() >= 3 && device.write_faults() == 0,
+                device.faults() > 0 && device.write_faults() == 0,
                 "{first}"
             );
             Ok(device.into_inner())
