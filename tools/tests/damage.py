@@ -6,7 +6,7 @@ import re
 
 from fields import changes, fields_of
 from rich import RICH, SLOTS, image_of, set_blocks
-from script import compare
+from script import compare, shown
 
 NUMBERS = 400
 
@@ -99,16 +99,10 @@ def damaged_numbers(rows, report):
     report(len(fields) >= 200, f"{len(fields)} numbers")
     chosen = [fields[number * len(fields) // NUMBERS] for number in range(NUMBERS)]
     images = [Image(field, value) for field in chosen for value in values_of(field)]
-    waiting = images
+    waiting, begun = images, ["# numbers", f"-- blank {SLOTS}"] + set_blocks(data) + ["-- keep"]
     while waiting:
-        text = ["# numbers", f"-- blank {SLOTS}"] + set_blocks(data) + ["-- keep"]
-        for image in waiting:
-            text += image.text()
-        calls = iter(rows.show("\n".join(text) + "\n"))
-        for image in waiting:
-            for _ in image.runs:
-                next(calls)
-            image.take(next(calls))
+        for image, calls in zip(waiting, shown(rows, begun, [image.text() for image in waiting])):
+            image.take(calls[-1])
         waiting = [image for image in waiting if image.left and not image.wrong]
     plain = RICH.after()
     whole = [plain.reply(line) for line in LINES]

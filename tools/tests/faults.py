@@ -4,7 +4,7 @@ After each the image is read again: it has the tree after as many commands as it
 those among them that a sync, a checkpoint or a reclaiming kept.
 """
 from rich import RICH, SLOTS
-from script import KEEPING, Lines, questions
+from script import KEEPING, Lines, questions, shown
 
 TEARS = ("old", "new", "0", "1", "255")
 
@@ -131,14 +131,11 @@ class Script:
     def stopped(self, rows, report, hows):
         """Runs the lines once in each of these ways, each of which stops them, and asks what is left. At which lines
         they were stopped."""
-        text = self.begun()
-        for how in hows:
-            text += self.run(*how) + self.ask()
-        calls = rows.show("\n".join(text) + "\n")[-2 * len(hows):]
-        for how, stopped, asked in zip(hows, calls[::2], calls[1::2]):
+        calls = shown(rows, self.begun(), [self.run(*how) + self.ask() for how in hows])
+        for how, (stopped, asked) in zip(hows, calls):
             wrong = self.wrong(stopped, asked)
             report(wrong is None, f"{self.label}: {how}: {wrong}")
-        return {len(stopped.written) - 1 for stopped in calls[::2]}
+        return {len(stopped.written) - 1 for stopped, _asked in calls}
 
 
 def cut_off(rows, report, script, least, step):

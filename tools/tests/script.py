@@ -1,6 +1,8 @@
 """Lines of scripts beside the plain map."""
 import copy
+import os
 import re
+from concurrent.futures import ThreadPoolExecutor
 
 from plain import PlainMap
 
@@ -60,3 +62,19 @@ def compare(rows, text, report):
         report(True, "")
     for line in differing:
         report(False, line)
+
+
+def shown(rows, begun, parts):
+    """The calls of each of these parts of rows, after the same rows that begin a device and keep it. Each processor
+    runs its share of the parts."""
+    count = max(1, min(os.cpu_count() or 1, len(parts)))
+    shares = [parts[len(parts) * at // count : len(parts) * (at + 1) // count] for at in range(count)]
+
+    def show(share):
+        calls = rows.show("\n".join(begun + [line for part in share for line in part]) + "\n")
+        wanted = sum(line == "-- run" for part in share for line in part)
+        last = iter(calls[len(calls) - wanted :])
+        return [[next(last) for line in part if line == "-- run"] for part in share]
+
+    with ThreadPoolExecutor(count) as pool:
+        return [calls for share in pool.map(show, shares) for calls in share]
