@@ -27,9 +27,12 @@ FORMATS = [
 
 # The words after `fill`, and the seed and the number of drawn lines that they say. The image is `img`.
 FILLS = [
-    (["img", "7", "300"], 7, 300), (["img", "0", "0"], 0, 0), (["img", "4294967295", "100000"], 2**32 - 1, 100_000),
-    (["img", "+7", "007"], 7, 7), (["--", "img", "-0", "5"], 0, 5), (["img", "--", "5", "-00"], 5, 0), (["img", "0", "22"], 0, 22),
-    (["img", "1", "22"], 1, 22), (["img", "4294967295", "22"], 2**32 - 1, 22), (["img", "0", "100000"], 0, 100_000)]
+    (["img", "7", "300"], 7, 300), (["img", "0", "0"], 0, 0), (["img", "+7", "007"], 7, 7), (["--", "img", "-0", "5"], 0, 5),
+    (["img", "--", "5", "-00"], 5, 0), (["img", "0", "55"], 0, 55), (["img", "1", "55"], 1, 55),
+    (["img", "4294967295", "55"], 2**32 - 1, 55), (["img", "4294967295", "2000"], 2**32 - 1, 2000)]
+
+# The greatest numbers, which take long on an image that is there.
+GREATEST = ["img", "4294967295", "100000"]
 
 # Words that are refused.
 REFUSED = [
@@ -119,9 +122,10 @@ def fills(betr, report, fresh):
             report(status == 0 and found == (0, counts(written)), label)
             is_same = (folder.path / "img").read_bytes() == (other.path / "img").read_bytes()
             report(is_same and folder.names() == ["img"], f"{label}: the image")
+    for words in [words for words, _, _ in FILLS] + [GREATEST]:
         with Folder(betr) as folder:
             found = folder.call(["fill", *words])
-            report(found == (3, NOTHING_FILLED + NO_IMAGE) and folder.names() == [], f"{label} without an image")
+            report(found == (3, NOTHING_FILLED + NO_IMAGE) and folder.names() == [], f"words: fill {words} without an image")
 
 
 def refused(betr, report):
