@@ -76,6 +76,7 @@ fn joined<A: Attach + Drop, B: Attach + Drop>(
 
 /// A mirror is made, and attached again, where the first half fails after so many calls: what is
 /// seen then, in the second half after that, and in the mirror and in both halves at last.
+#[derive(Clone, Copy)]
 struct Turns {
     calls: u64,
     during: Calls,
