@@ -135,7 +135,7 @@ module _ {D : Type 0} (g : Ghosts D) where
   shown_last None stopped u first since shell none h idle going among saved =
       let x : State = closed None stopped u in
       shown_by (g.contents (device_in shell)) (left_now g (device_in shell)) (view_in g shell) x h.at.view_is
-      (settled_all g shell.kept.volume x.tree x.count h.at.stands going (ap (λ (v : View). v.waiting) h.at.view_is ∙ idle)) among saved
+      (settled_all g _ x.tree x.count h.at.stands going (ap (λ (v : View). v.waiting) h.at.view_is ∙ idle)) among saved
   shown_last (Some e) stopped u first since shell none h idle going among saved = cc
 
   -- a session of a volume that started
