@@ -1,8 +1,9 @@
 //! Lines that ask the keys: `get KEY VALUE`, `has KEY`, `none KEY`, `next FROM WITHIN KEY VALUE`,
-//! `nothing FROM WITHIN` (there is no next one), `scan FROM WITHIN MOST FOUND`, what is found being
+//! `nothing FROM WITHIN` (there is no next one), `after` as `next` of the tree alone, `scan FROM WITHIN MOST FOUND`, what is found being
 //! written as KEY=VALUE with a comma after each, `front FROM WITHIN` (scans of the tree find the first
 //! of what those of the map find), `same KEYS` and `search FROMS WITHINS`, with commas between (the
-//! tree answers as the map), and `keys COUNT` (all have the same keys, and the same at each).
+//! tree answers as the map), and `keys COUNT` or `keys` (all have
+//! the same keys, and the same at each).
 
 use crate::machine::Machine;
 use crate::stop::{Stop, ensure, within};
@@ -17,11 +18,12 @@ pub fn run(machine: &mut Machine, words: &[&str; WORDS]) -> Result<bool, Stop> {
         "get" => get(machine, words)?,
         "has" | "none" => has(machine, words)?,
         "next" | "nothing" => next(machine, words)?,
+        "after" => after(machine, words)?,
         "scan" => scan(machine, words)?,
         "front" => front(machine, words)?,
         "same" => same(machine, words)?,
         "search" => search(machine, words)?,
-        "keys" => keys(machine, number(words[1])?)?,
+        "keys" => keys(machine, words[1])?,
         _ => return Ok(false),
     }
     Ok(true)
@@ -77,6 +79,15 @@ fn next(machine: &mut Machine, words: &[&str; WORDS]) -> Result<(), Stop> {
     };
     is_next(&mut machine.map, &from, &within, want)?;
     is_next(&mut machine.tree, &from, &within, want)
+}
+
+/// The tree finds a next key with its value.
+fn after(machine: &mut Machine, words: &[&str; WORDS]) -> Result<(), Stop> {
+    let from = bytes(machine.alloc, words[1])?;
+    let within = bytes(machine.alloc, words[2])?;
+    let key = bytes(machine.alloc, words[3])?;
+    let value = bytes(machine.alloc, words[4])?;
+    is_next(&mut machine.tree, &from, &within, Some((&key, &value)))
 }
 
 /// What was found, as KEY=VALUE with a comma after each.
@@ -199,11 +210,13 @@ pub fn same_keys<A: KeyMap, B: KeyMap>(alloc: Global, a: &mut A, b: &mut B) -> R
     Err(Stop::NoLine)
 }
 
-/// All have so many keys, and the same at each.
-fn keys(machine: &mut Machine, count: u64) -> Result<(), Stop> {
-    let Machine {
-        alloc, map, tree, ..
-    } = machine;
-    within(same_keys(*alloc, map, tree)?, count, count)?;
-    machine.disk.has_keys_of(machine.alloc, &mut machine.map)
+/// All have the same keys, and the same at each, and so many, where that is said.
+fn keys(machine: &mut Machine, count: &str) -> Result<(), Stop> {
+    let found = same_keys(machine.alloc, &mut machine.map, &mut machine.tree)?;
+    machine.disk.has_keys_of(machine.alloc, &mut machine.map)?;
+    if count.is_empty() {
+        return Ok(());
+    }
+    let want = number(count)?;
+    within(found, want, want)
 }

@@ -1,13 +1,14 @@
 //! Lines that change what there is: `put KEY VALUE`, `del KEY`, `patch KEY VALUE` (from offset 3 on),
-//! `cut PREFIX FROM`, `clone FROM TO`, `move FROM TO`, `flush LIMIT`, `limit LIMIT` (a flush after each
+//! `cut PREFIX FROM`, `clone FROM TO`, `move FROM TO`, `lone FROM TO` (a
+//! clone in the tree alone), `worn FROM TO` (no clone, since the level is worn), `flush LIMIT`, `limit LIMIT` (a flush after each
 //! call from then on), `reclaim` (no push is asked for), and `pushes COUNT` (with pushes, of which
 //! there are at least so many).
 
-use crate::machine::{Machine, reclaim};
+use crate::machine::{Machine, graft, reclaim};
 use crate::stop::{Stop, ensure, within};
 use crate::words::{WORDS, bytes, number};
 use bd_keys::Bytes;
-use bd_message::Message;
+use bd_message::{Counter, MapFault, Message};
 use std::alloc::Global;
 
 /// Runs a line, if it is one of these.
@@ -16,6 +17,8 @@ pub fn run(machine: &mut Machine, words: &[&str; WORDS]) -> Result<bool, Stop> {
         "put" | "del" | "patch" | "cut" => change(machine, words)?,
         "clone" => send(machine, words, true)?,
         "move" => send(machine, words, false)?,
+        "worn" => worn(machine, words)?,
+        "lone" => lone(machine, words)?,
         "flush" => machine.flush(number(words[1])? as usize)?,
         "limit" => machine.limit = Some(number(words[1])? as usize),
         "reclaim" => ensure(reclaim(&mut machine.tree, false)? == 0)?,
@@ -63,4 +66,19 @@ fn send(machine: &mut Machine, words: &[&str; WORDS], keep: bool) -> Result<(), 
     let s = bytes(machine.alloc, words[1])?;
     let d = bytes(machine.alloc, words[2])?;
     machine.graft(&s, &d, keep)
+}
+
+/// Clones in the tree alone.
+fn lone(machine: &mut Machine, words: &[&str; WORDS]) -> Result<(), Stop> {
+    let s = bytes(machine.alloc, words[1])?;
+    let d = bytes(machine.alloc, words[2])?;
+    graft(&mut machine.tree, &s, &d, true)
+}
+
+/// The level is worn for a clone.
+fn worn(machine: &mut Machine, words: &[&str; WORDS]) -> Result<(), Stop> {
+    match lone(machine, words) {
+        Err(Stop::Map(MapFault::Worn(Counter::Level))) => Ok(()),
+        _ => Err(Stop::Differs),
+    }
 }

@@ -5,7 +5,8 @@
 //! leaves what is told of the nodes as it was), `close SLOT` (a checkpoint, and only the device is
 //! left), `open ROOM` (the nodes are read again), `read ROOM` (they are read again to be asked) and
 //! `ask` (they are asked as they are), and `back` (only the device is left again). Of nodes that may be
-//! changed: `spill EARLY`, `usage CHANGED FREE`, `alike` (their numbers are those of the tree, with as
+//! changed: `spill EARLY` (from then on, after each flush,
+//! all changed nodes but so many are written), `usage CHANGED FREE`, `alike` (their numbers are those of the tree, with as
 //! many visits since `open`), `failing-flush LIMIT` (one that goes on where a step fails, if this
 //! leaves what is told as it was) and `faults COUNT`. Of nodes that are asked: `same-nodes` (those of
 //! the tree, each named as often) and `calls LOW HIGH` (of the device since `read`). Of a device:
@@ -14,7 +15,7 @@
 //! of one byte are asked).
 
 use crate::asks::{is_at, same_keys};
-use crate::machine::Machine;
+use crate::machine::{Machine, flush as flush_tree};
 use crate::stop::{Stop, ensure, within};
 use crate::stored::{Saved, Stored, flush, in_memory};
 use crate::walk::walked;
@@ -43,6 +44,8 @@ pub struct Disk {
     fail: Vec<u64>,
     /// How many calls of the device, or visits of the tree, there were before.
     before: u64,
+    /// How many changed nodes stay in memory after a flush, where others are written then.
+    early: Option<u64>,
 }
 
 // Written out, so that a drop is one call.
@@ -57,6 +60,7 @@ impl Drop for Disk {
             aside: _,
             fail: _,
             before: _,
+            early: _,
         } = self;
     }
 }
@@ -73,7 +77,7 @@ fn run_change(machine: &mut Machine, words: &[&str; WORDS]) -> Result<bool, Stop
         "image" => disk.begin(machine.alloc, words)?,
         "save" => disk.save(words[1])?,
         "unsaved" => disk.fails_to_save()?,
-        "spill" => disk.spill(number(words[1])?)?,
+        "spill" => disk.early = Some(number(words[1])?),
         "usage" => disk.has_usage(number(words[1])?, number(words[2])?)?,
         "alike" => machine.disk.has_numbers_of(&machine.tree)?,
         "failing-flush" => failing_flush(machine, number(words[1])? as usize)?,
@@ -143,6 +147,20 @@ fn told(stored: &Stored<MemDevice>) -> Told {
     )
 }
 
+/// Flushes, and writes changed nodes early.
+fn flush_early(
+    alloc: Global,
+    stored: &mut Stored<MemDevice>,
+    limit: usize,
+    early: Option<u64>,
+) -> Result<(), Stop> {
+    flush(alloc, stored, limit)?;
+    match early {
+        Some(early) => Ok(stored.spill(early)?),
+        None => Ok(()),
+    }
+}
+
 /// What is there, or no meaning of the line.
 fn there<T>(found: Option<T>) -> Result<T, Stop> {
     found.ok_or(Stop::NoLine)
@@ -160,6 +178,7 @@ impl Disk {
             aside: None,
             fail: Vec::new(alloc),
             before: 0,
+            early: None,
         }
     }
 
@@ -190,7 +209,7 @@ impl Disk {
     /// With at most so many bytes that wait in the root.
     pub fn flush(&mut self, alloc: Global, limit: usize) -> Result<(), Stop> {
         match &mut self.stored {
-            Some(stored) => flush(alloc, stored, limit),
+            Some(stored) => flush_early(alloc, stored, limit, self.early),
             None => Ok(()),
         }
     }
@@ -233,14 +252,6 @@ impl Disk {
     fn fails_to_save(&mut self) -> Result<(), Stop> {
         match &mut self.stored {
             Some(stored) => fails_to_save(stored),
-            None => Err(Stop::NoLine),
-        }
-    }
-
-    /// Writes changed nodes early.
-    fn spill(&mut self, early: u64) -> Result<(), Stop> {
-        match &mut self.stored {
-            Some(stored) => Ok(stored.spill(early)?),
             None => Err(Stop::NoLine),
         }
     }
@@ -325,11 +336,7 @@ impl Disk {
     /// So many calls of the device since `read`.
     fn has_calls(&self, low: u64, high: u64) -> Result<(), Stop> {
         match &self.found {
-            Some(found) => within(
-                found.store().calls().saturating_sub(self.before),
-                low,
-                high,
-            ),
+            Some(found) => within(found.store().calls().saturating_sub(self.before), low, high),
             None => Err(Stop::NoLine),
         }
     }
@@ -426,6 +433,7 @@ fn fails_to_save(stored: &mut Stored<MemDevice>) -> Result<(), Stop> {
 
 /// Flushes until at most so many bytes wait, and goes on where a step over the device fails.
 fn failing_flush(machine: &mut Machine, limit: usize) -> Result<(), Stop> {
+    flush_tree(&mut machine.tree, limit)?;
     match &mut machine.disk.stored {
         Some(stored) => flush_on(machine.alloc, stored, limit),
         None => Err(Stop::NoLine),

@@ -4,13 +4,10 @@
 //! and `new` begins again without keys. A word of bytes has parts with `+` between: a text or `%` and
 //! hexadecimal digits, and behind `*` how often it stands there; `-` stands for no bytes.
 
-use crate::asks;
-use crate::calls;
-use crate::image;
 use crate::machine::Machine;
-use crate::shapes;
 use crate::stop::Stop;
 use crate::words::{expanded, number, words_of};
+use crate::{asks, calls, image, shapes};
 
 /// Runs a line.
 pub fn run(machine: &mut Machine, line: &str) -> Result<(), Stop> {

@@ -2,8 +2,8 @@
 
 use crate::image::Disk;
 use crate::stop::Stop;
-use bd_limits::{GRAFT_SIZE, MAX_KEY};
 use bd_keys::starts;
+use bd_limits::{GRAFT_SIZE, MAX_KEY};
 use bd_memnodes::MemNodes;
 use bd_message::{KeyMap, ListMap, Message};
 use bd_node::{Node, NodeStore};
@@ -110,7 +110,7 @@ pub fn graft<M: KeyMap>(map: &mut M, s: &[u8], d: &[u8], keep: bool) -> Result<(
 const STEPS: u64 = 1_000;
 
 /// Flushes until at most so many bytes wait in the root.
-fn flush(tree: &mut Tree<MemNodes>, limit: usize) -> Result<(), Stop> {
+pub fn flush(tree: &mut Tree<MemNodes>, limit: usize) -> Result<(), Stop> {
     for _ in 0..STEPS {
         if !tree.flush_step(limit)? {
             return Ok(());

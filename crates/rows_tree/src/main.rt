@@ -16,10 +16,8 @@ mod walk;
 mod words;
 
 use report::{Counts, Report};
-use std::env;
-use std::fs;
-use std::io;
 use std::process::ExitCode;
+use std::{env, fs, io};
 
 /// The status where a row differs.
 const DIFFERS: u8 = 1;
