@@ -21,7 +21,9 @@ use Rattle.bd_table.specs.declared.table.TableEntry.{TableEntry}
 use Rattle.bd_super.specs.Live.{IsLive}
 use Rattle.bd_super.specs.declared.superblock.Super.{Super}
 use Rattle.bd_pager.specs.declared.place.Spot.{Spot}
-use Rattle.bd_pager.specs.Slots.{slot_bytes, HasNode, IsBadSlot}
+use Rattle.bd_tails.specs.Tails.{slot_bytes}
+use Rattle.bd_format.specs.Slots.{HasNode}
+use Rattle.bd_pager.specs.Slots.{IsBadSlot}
 use Rattle.bd_pager.specs.Places.{node_at, node_of, nodes_at, IsBadSpot}
 use Rattle.bd_pager.specs.Pagers.{Paged, spots_of, table_at, table_of, IsKnownOver, is_known, is_saved, is_changed_place, is_changed, touched_at}
 use Rattle.bd_pager.specs.Entries.{saved_spot}

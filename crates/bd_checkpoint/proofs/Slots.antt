@@ -9,13 +9,14 @@ use Rattle.bd_cache.specs.declared.cache.NodeCache.{NodeCache}
 use Rattle.bd_format.specs.Decoding.{node_in}
 use Rattle.bd_format.specs.Images.{IsImage}
 use Rattle.bd_node.specs.declared.node.Node.{Node}
-use Rattle.bd_tails.specs.Tails.{AreTails}
+use Rattle.bd_tails.specs.Tails.{AreTails, slot_bytes}
 use Rattle.bd_tails.specs.declared.tails.Tails.{Tails}
 use Rattle.bd_tails.proofs.Known.{zero_stays}
 use Rattle.bd_pager.specs.declared.place.Place.{Place}
 use Rattle.bd_pager.specs.declared.place.Place.TheVariants.{Memory, Slot}
 use Rattle.bd_pager.specs.declared.place.Spot.{Spot}
-use Rattle.bd_pager.specs.Slots.{slot_bytes, HasNode, HasNoNode, IsBadSlot}
+use Rattle.bd_format.specs.Slots.{HasNode}
+use Rattle.bd_pager.specs.Slots.{HasNoNode, IsBadSlot}
 use Rattle.bd_pager.specs.Places.{Spots, node_at, node_of, told, nodes_at, IsReadAt, IsRead, AreCached, IsBadPlace, IsBadSpot}
 use Rattle.bd_pager.specs.Pagers.{Paged, spots_of, IsRightPlace, IsKnownOver}
 use Rattle.bd_super.specs.Published.{IsOfHalf}

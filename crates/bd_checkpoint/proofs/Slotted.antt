@@ -14,7 +14,8 @@ use Rattle.bd_table.specs.Tables.{IsTableEntry}
 use Rattle.bd_table.specs.declared.table.Table.{Table as StoredTable}
 use Rattle.bd_table.specs.declared.table.TableEntry.{TableEntry}
 use Rattle.bd_pager.specs.declared.place.Spot.{Spot}
-use Rattle.bd_pager.specs.Slots.{slot_bytes, HasNode}
+use Rattle.bd_tails.specs.Tails.{slot_bytes}
+use Rattle.bd_format.specs.Slots.{HasNode}
 use Rattle.bd_pager.specs.Places.{Spots, refs_in, level_in, node_at, node_of, nodes_at}
 use Rattle.bd_pager.specs.Pagers.{table_at}
 use Rattle.bd_image.specs.Stored.{entry_of, IsNodeAt, HoldsNodes, refs_in as entry_refs, level_in as entry_level, table_of as stored_table}

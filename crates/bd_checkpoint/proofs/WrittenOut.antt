@@ -16,7 +16,7 @@ use Rattle.bd_pager.specs.declared.place.Place.{Place}
 use Rattle.bd_pager.specs.declared.place.Place.TheVariants.{Memory, Slot}
 use Rattle.bd_pager.specs.declared.place.Spot.{Spot}
 use Rattle.bd_pager.specs.declared.written.Written.{Written}
-use Rattle.bd_pager.specs.Slots.{slot_bytes}
+use Rattle.bd_tails.specs.Tails.{slot_bytes}
 use Rattle.bd_pager.specs.Places.{Spots, node_at, nodes_at}
 use Rattle.bd_pager.specs.Pagers.{Paged, spots_of, nodes_of, table_at, touched_at, table_of, IsRightPlace, IsKnownOver, is_known, IsInSlot, IsEntryOf, IsReady}
 use Rattle.bd_pager.specs.WritingOut.{IsWrittenOut}

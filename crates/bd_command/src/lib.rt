@@ -17,7 +17,7 @@ pub use refusal::Refusal;
 pub use reply::{Chunk, Listed, Listing, Names, Reply};
 
 /// A command of the plain map. Offsets and lengths are bytes.
-#[derive(Clone, Debug, Drop)]
+#[derive(Clone, Debug)]
 pub enum Command {
     /// Makes an empty directory.
     Mkdir { path: Path },
@@ -41,6 +41,33 @@ pub enum Command {
     Stat { path: Path },
     /// Lists the names in a directory, those greater than `after` alone where it is there.
     List { path: Path, after: Option<Name> },
+}
+
+// Written out, so that a drop is one call, and not each variant's wherever a command is let go.
+impl Drop for Command {
+    fn drop(self) {
+        match self {
+            Command::Mkdir { path: _ } => {}
+            Command::Create { path: _ } => {}
+            Command::Write {
+                path: _,
+                off: _,
+                bytes: _,
+            } => {}
+            Command::Truncate { path: _, len: _ } => {}
+            Command::Remove { path: _ } => {}
+            Command::Rename { a: _, b: _ } => {}
+            Command::Clone { a: _, b: _ } => {}
+            Command::Chmod { path: _, mode: _ } => {}
+            Command::Read {
+                path: _,
+                off: _,
+                len: _,
+            } => {}
+            Command::Stat { path: _ } => {}
+            Command::List { path: _, after: _ } => {}
+        }
+    }
 }
 
 impl Command {

@@ -28,7 +28,8 @@ use Rattle.bd_pager.specs.Moving.{Spills}
 use Rattle.bd_pager.specs.Opened.{IsOpened}
 use Rattle.bd_pager.specs.Pagers.{Paged, spots_of, nodes_of, table_of, is_known, is_bad, AreEntriesOf, IsEntryOf, IsInSlot, IsPaged, IsPlaceIn, IsStoredAs}
 use Rattle.bd_pager.specs.Places.{IsBadPlace, IsBadSpot, NoneTurnsBad}
-use Rattle.bd_pager.specs.Slots.{HasNode, IsSpare}
+use Rattle.bd_format.specs.Slots.{HasNode}
+use Rattle.bd_pager.specs.Slots.{IsSpare}
 use Rattle.bd_pager.proofs.FlagLemmas.{taken_held, entry_slot}
 use Rattle.bd_pager.proofs.OpenedLemmas.{search_id, slot_within}
 use Rattle.bd_image.specs.Damage.{IsBadAt, IsGoodNode}

@@ -7,9 +7,9 @@ use Rattle.bd_node.specs.Stores.{OnlyReadsBy}
 use Rattle.bd_node.specs.Tables.{Table, IsSound}
 use Rattle.bd_pager.specs.Calling.{read_table, read_known}
 use Rattle.bd_pager.specs.Pagers.{Paged, nodes_of, table_of, is_known, IsReadOf}
-use Rattle.bd_reclaim.specs.declared.walking.Reclaim.{Reclaim}
-use Rattle.bd_reclaim.specs.Walking.{IsToDo, IsToDoAt}
-use Rattle.bd_reclaim.specs.Reclaimed.{IsReclaimed}
+use Rattle.bd_cover.specs.declared.walking.Reclaim.{Reclaim}
+use Rattle.bd_cover.specs.Walking.{IsToDo, IsToDoAt}
+use Rattle.bd_cover.specs.Reclaimed.{IsReclaimed}
 use Rattle.bd_engine.specs.Reclaiming.{MayMake}
 use Rattle.bd_engine.proofs.Left.{read_nodes}
 

@@ -13,7 +13,7 @@ use Rattle.bd_node.specs.Meaning.{Nodes}
 use Rattle.bd_node.specs.Nodes.{level_of}
 use Rattle.bd_node.specs.Shape.{IsShape}
 use Rattle.bd_node.specs.Tables.{Table, IsStored, IsSound, sum_below}
-use Rattle.bd_reclaim.specs.Reclaimed.{unseen_count, unseen_in, left_over}
+use Rattle.bd_cover.specs.Reclaimed.{unseen_count, unseen_in, left_over}
 
 message_some : (m : Message) → 1 ≤ size m
 message_some (Put key value) = omega arith

@@ -19,7 +19,8 @@ use Rattle.bd_pager.specs.declared.place.Place.TheVariants.{Memory, Slot}
 use Rattle.bd_pager.specs.declared.place.Spot.{Spot}
 use Rattle.bd_pager.specs.Pagers.{Paged, spots_of, nodes_of, table_of, table_at, is_known, AreEntriesOf, IsEntryOf, IsInSlot, IsKnownOver, IsOfSize, IsPaged, IsRightPlace}
 use Rattle.bd_pager.specs.Places.{Spots, copy_in, node_at, node_of, nodes_at}
-use Rattle.bd_pager.specs.Slots.{slot_bytes, HasNode}
+use Rattle.bd_tails.specs.Tails.{slot_bytes}
+use Rattle.bd_format.specs.Slots.{HasNode}
 use Rattle.bd_pager.proofs.OpenedLemmas.{search_id}
 use Rattle.bd_image.specs.Stored.{entry_of, IsNodeAt, HoldsNodes, table_of as stored_table}
 use Rattle.bd_checkpoint.specs.Saving.{IsSaved}

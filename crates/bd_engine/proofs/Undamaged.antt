@@ -13,7 +13,7 @@ use Rattle.bd_pager.specs.declared.place.Place.TheVariants.{Memory, Slot}
 use Rattle.bd_pager.specs.declared.place.Spot.{Spot}
 use Rattle.bd_pager.specs.Places.{refs_in, level_in, nodes_at, node_at, node_of, IsBadPlace, IsBadSpot}
 use Rattle.bd_pager.specs.Pagers.{Paged, spots_of, table_of, IsPaged, is_bad}
-use Rattle.bd_pager.specs.Slots.{slot_bytes}
+use Rattle.bd_tails.specs.Tails.{slot_bytes}
 use Rattle.bd_engine.specs.Engines.{HasSoundNodes}
 
 -- the node that bytes decode to is that of their image

@@ -3,9 +3,9 @@ use Rattle.bd_message.specs.declared.fault.Counter.{Counter}
 use Rattle.bd_device.specs.declared.device.Device.{Ghosts}
 use Rattle.bd_node.specs.Tables.{IsSound}
 use Rattle.bd_pager.specs.Pagers.{Paged, nodes_of, table_of, is_known}
-use Rattle.bd_reclaim.specs.declared.walking.Reclaim.{Reclaim}
-use Rattle.bd_reclaim.specs.Reclaimed.{IsWornChange}
-use Rattle.bd_reclaim.specs.Walking.{IsToDo, IsToDoAt}
+use Rattle.bd_cover.specs.declared.walking.Reclaim.{Reclaim}
+use Rattle.bd_reclaim.specs.Changes.{IsWornChange}
+use Rattle.bd_cover.specs.Walking.{IsToDo, IsToDoAt}
 use Rattle.bd_engine.specs.Engines.{HasSoundNodes}
 
 -- the change may be made, as far as the table tells, and where the nodes are known and sound

@@ -1,3 +1,4 @@
 pub mod Decoding
 pub mod Images
 pub mod Parts
+pub mod Slots

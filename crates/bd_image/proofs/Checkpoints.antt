@@ -15,7 +15,7 @@ use Rattle.bd_super.specs.declared.superblock.Half.{Half}
 use Rattle.bd_super.specs.declared.superblock.Half.TheVariants.{A, B}
 use Rattle.bd_super.specs.declared.superblock.Super.{Super}
 use Rattle.bd_super.proofs.LiveLemmas.{same_halves, same_superblocks}
-use Rattle.bd_pager.specs.Slots.{IsOfSlot}
+use Rattle.bd_tails.specs.Tails.{IsOfSlot}
 use Rattle.bd_image.specs.Versions.{version_of}
 use Rattle.bd_image.specs.Stored.{HoldsNodes}
 use Rattle.bd_image.specs.ImageTree.{HaveTree, HasTree}

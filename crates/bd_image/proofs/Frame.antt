@@ -21,7 +21,7 @@ use Rattle.bd_super.specs.Live.{IsLive}
 use Rattle.bd_super.specs.declared.superblock.Super.{Super}
 use Rattle.bd_log.specs.Batches.{IsBatchAt, AreChained, AreBatches, body_blocks}
 use Rattle.bd_log.specs.declared.batch.Batch.{Batch}
-use Rattle.bd_pager.specs.Slots.{slot_bytes, IsOfSlot}
+use Rattle.bd_tails.specs.Tails.{slot_bytes, IsOfSlot}
 use Rattle.bd_image.specs.Stored.{entry_of, IsNodeAt, HoldsNodes}
 use Rattle.bd_image.specs.ImageTree.{HasTree}
 use Rattle.bd_image.specs.Used.{used_slots, IsOfSlots, SameBlocks, SameSlots, SameUsed}

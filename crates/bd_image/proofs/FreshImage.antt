@@ -18,7 +18,7 @@ use Rattle.bd_table.specs.declared.table.TableEntry.{TableEntry}
 use Rattle.bd_super.specs.Superblocks.{IsSuper, super_body}
 use Rattle.bd_super.specs.Live.{IsLive}
 use Rattle.bd_super.specs.declared.superblock.Super.{Super}
-use Rattle.bd_pager.specs.Slots.{HasNode}
+use Rattle.bd_format.specs.Slots.{HasNode}
 use Rattle.bd_image.specs.Fresh.{fresh_root, fresh_table, IsFresh, first_super, put_together, fresh_image}
 use Rattle.bd_image.proofs.Fresh.{root_shape}
 use Rattle.bd_image.proofs.FreshBytes.{one_slot, length-one_table, length-image, length-parts, first_there, second_there, commit_there, body_there, other_there, log_there}

@@ -22,7 +22,7 @@ use Rattle.bd_super.specs.Superblocks.{log_block}
 use Rattle.bd_super.specs.declared.superblock.Super.{Super}
 use Rattle.bd_log.specs.Batches.{AreBatches}
 use Rattle.bd_log.specs.declared.batch.Batch.{Batch}
-use Rattle.bd_pager.specs.Slots.{slot_bytes}
+use Rattle.bd_tails.specs.Tails.{slot_bytes}
 use Rattle.bd_image.specs.Versions.{version_of}
 use Rattle.bd_image.specs.Stored.{entry_of, IsNodeAt, HoldsNodes, table_of}
 use Rattle.bd_image.specs.ImageTree.{LeadsOn, records_of, HaveTree, HasTree, ImageStandsFor}

@@ -19,7 +19,7 @@ use Rattle.bd_super.specs.Live.{IsLive, IsDamaged}
 use Rattle.bd_super.specs.declared.superblock.Super.{Super}
 use Rattle.bd_log.specs.Batches.{AreBatches, IsDamagedAt}
 use Rattle.bd_log.specs.declared.batch.Batch.{Batch}
-use Rattle.bd_pager.specs.Slots.{HasNode}
+use Rattle.bd_format.specs.Slots.{HasNode}
 use Rattle.bd_image.specs.Versions.{version_of, IsLoggedIn}
 use Rattle.bd_image.specs.Stored.{entry_of, HoldsNodes, table_of}
 use Rattle.bd_image.specs.ImageTree.{LeadsOn, HaveTree, StartsFrom}

@@ -17,7 +17,7 @@ use Rattle.bd_super.specs.Superblocks.{log_block, super_body, written_version}
 use Rattle.bd_super.specs.Live.{IsLive}
 use Rattle.bd_super.specs.declared.superblock.Half.TheVariants.{A}
 use Rattle.bd_super.specs.declared.superblock.Super.{Super}
-use Rattle.bd_pager.specs.Slots.{HasNode}
+use Rattle.bd_format.specs.Slots.{HasNode}
 
 -- the root of a new store, in which the record of `/` waits
 abbrev pub fresh_root : Node

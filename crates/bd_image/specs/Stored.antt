@@ -8,7 +8,7 @@ use Rattle.bd_node.specs.declared.node.Node.{Node}
 use Rattle.bd_node.specs.Meaning.{Nodes}
 use Rattle.bd_node.specs.Closed.{buffer_size_in}
 use Rattle.bd_node.specs.Tables.{Table}
-use Rattle.bd_pager.specs.Slots.{HasNode}
+use Rattle.bd_format.specs.Slots.{HasNode}
 
 -- the entry of an id
 abbrev pub entry_of : List TableEntry → ℕ → Option TableEntry

@@ -8,7 +8,7 @@ use Rattle.bd_table.specs.Tables.{slots_of}
 use Rattle.bd_table.specs.declared.table.Table.{Table as StoredTable}
 use Rattle.bd_super.specs.Superblocks.{log_block}
 use Rattle.bd_super.specs.declared.superblock.Super.{Super}
-use Rattle.bd_pager.specs.Slots.{IsOfSlot}
+use Rattle.bd_tails.specs.Tails.{IsOfSlot}
 
 -- the slots of a table that takes the slots `at`, and those of its nodes
 abbrev pub used_slots : List ℕ → StoredTable → List ℕ

@@ -8,7 +8,7 @@ use bd_keys::Bytes;
 use bd_limits::{BASE_SIZE, MAX_BLOCK, MAX_KEY};
 
 /// A change of a key map.
-#[derive(Clone, Debug, PartialEq, Eq, Drop)]
+#[derive(Clone, Debug, PartialEq, Eq)]
 pub enum Message {
     /// The key has the value.
     Put {
@@ -38,6 +38,27 @@ pub enum Message {
         source: Bytes,
         child: u64,
     },
+}
+
+// Written out, so that a drop is one call, and not each variant's wherever a message is let go.
+impl Drop for Message {
+    fn drop(self) {
+        match self {
+            Message::Put { key: _, value: _ } => {}
+            Message::Del { key: _ } => {}
+            Message::Patch {
+                key: _,
+                off: _,
+                bytes: _,
+            } => {}
+            Message::Cut { prefix: _, from: _ } => {}
+            Message::Goto {
+                prefix: _,
+                source: _,
+                child: _,
+            } => {}
+        }
+    }
 }
 
 impl Message {

@@ -10,7 +10,8 @@ use Rattle.bd_node.specs.declared.node.Node.{Node}
 use Rattle.bd_pager.specs.declared.place.Place.{Place}
 use Rattle.bd_pager.specs.declared.place.Place.TheVariants.{Memory, Slot}
 use Rattle.bd_pager.specs.declared.place.Spot.{Spot}
-use Rattle.bd_pager.specs.Changing.{slot_if, own_slot, IsChangedSpot, IsChangedAt}
+use Rattle.bd_slots.specs.Slots.{slot_if}
+use Rattle.bd_pager.specs.Changing.{own_slot, IsChangedSpot, IsChangedAt}
 use Rattle.bd_pager.specs.Places.{Spots, refs_in, level_in, copy_at, node_at, node_of, IsBadPlace, IsBadSpot, NoneTurnsBad}
 use Rattle.bd_pager.specs.Pagers.{is_changed, is_changed_place, IsRightPlace, IsPlaceIn}
 

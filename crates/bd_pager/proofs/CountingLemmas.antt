@@ -9,7 +9,7 @@ use Rattle.std.specs.declared.cmp.Ordering.TheVariants.{Less, Greater}
 use Rattle.std.proofs.lemmas.Bool.{cases_eq, cases_lt, true≢false}
 use Rattle.std.proofs.lemmas.List.{length-set}
 use Rattle.std.proofs.lemmas.Option.{none-some, same_Some, slice_get-get_or, slice_get_within, slice_get_past, get_or_from_slice_get}
-use Rattle.bd_slots.specs.Slots.{IsFree, IsHeld, free_count}
+use Rattle.bd_slots.specs.Slots.{IsFree, IsHeld, free_count, slot_if}
 use Rattle.std.proofs.lemmas.List.Sums.{sum_by-set}
 use Rattle.bd_table.specs.declared.table.TableEntry.{TableEntry}
 use Rattle.bd_node.specs.declared.node.Node.{Node}
@@ -21,7 +21,7 @@ use Rattle.bd_pager.specs.declared.place.Spot.{Spot}
 use Rattle.bd_pager.specs.declared.usage.TheConstants.{IN_MEMORY}
 use Rattle.bd_pager.specs.declared.usage.Tally.{Tally}
 use Rattle.bd_pager.specs.declared.usage.Usage.{Usage}
-use Rattle.bd_pager.specs.Changing.{slot_if, own_slot, IsChangedAt}
+use Rattle.bd_pager.specs.Changing.{own_slot, IsChangedAt}
 use Rattle.bd_pager.specs.Counting.{AreUnused, is_in_memory, is_in_memory_at, has_own, spot_count, IsListed, AreListed, IsTallied, tally_of, moved, recounted, given, dropped, IsListedMore}
 use Rattle.bd_pager.specs.Pagers.{is_changed, is_changed_place, IsPlaceIn, IsInSlot, IsStoredAs}
 use Rattle.bd_pager.specs.Places.{Spots, slot_at, slot_in}

@@ -9,7 +9,7 @@ use Rattle.std.proofs.lemmas.Bool.{cases_eq, true≢false}
 use Rattle.std.proofs.lemmas.List.{length-set}
 use Rattle.std.proofs.lemmas.Option.{none-some, same_Some, slice_get_within, get_or_from_slice_get}
 use Rattle.bd_slots.specs.Layout.{image_blocks}
-use Rattle.bd_slots.specs.Slots.{IsFree, free_count}
+use Rattle.bd_slots.specs.Slots.{IsFree, free_count, slot_if}
 use Rattle.bd_device.specs.Blocks.{Image}
 use Rattle.bd_device.specs.Changes.{StaysBut, IsBeforeBut}
 use Rattle.bd_device.specs.Device.{left_now, Goes, Stays}
@@ -29,11 +29,13 @@ use Rattle.bd_pager.specs.declared.place.Spot.{Spot}
 use Rattle.bd_pager.specs.declared.usage.Usage.{Usage}
 use Rattle.bd_pager.specs.Calling.{no_reads}
 use Rattle.bd_pager.specs.declared.usage.TheConstants.{IN_MEMORY, STORED}
-use Rattle.bd_pager.specs.Changing.{slot_if, own_slot}
+use Rattle.bd_pager.specs.Changing.{own_slot}
 use Rattle.bd_pager.specs.Counting.{AreUnused, is_in_memory, is_in_memory_at, has_own, moved, recounted, AreListed, IsListed, IsTallied}
 use Rattle.bd_node.proofs.Sums.{sum_some}
 use Rattle.bd_pager.specs.Moving.{copy_if, freed_at, freed_in, stored_at, IsCachedMore, AreEarlier, IsBefore, IsEarliest, IfSpot, IsHeldAt, IsMovedAt, IsOfPlace, IsOfSpot, IsReservedPlace, IsReservedAt, IsWritablePlace, OnlyMoves}
-use Rattle.bd_pager.specs.Slots.{slot_bytes, HasNode, IsOfLevel, IsOfSlot, IsSpare}
+use Rattle.bd_tails.specs.Tails.{slot_bytes, IsOfSlot}
+use Rattle.bd_format.specs.Slots.{HasNode}
+use Rattle.bd_pager.specs.Slots.{IsOfLevel, IsSpare}
 use Rattle.bd_pager.specs.Places.{Spots, refs_in, level_in, slot_at, slot_in, copy_at, copy_in, node_at, node_of, told, IsReadAt, IsRead, AreCached, ArePlaced}
 use Rattle.bd_pager.specs.Pagers.{is_changed, is_changed_place, IsRightPlace, IsPlaceIn}
 use Rattle.bd_pager.proofs.CountingLemmas.{flag, count_again, count_kept, count_moved, flag_count, flag_here, flag_other, unused_moved, placed_unused, placed_tallied}

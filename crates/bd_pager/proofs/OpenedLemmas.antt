@@ -18,12 +18,13 @@ use Rattle.bd_node.specs.Shape.{IsShape}
 use Rattle.bd_table.specs.Tables.{AreFreeSlots, IsTableEntry, IsRoot, slots_of}
 use Rattle.bd_table.specs.declared.table.Table.{Table as Checkpoint}
 use Rattle.bd_table.specs.declared.table.TableEntry.{TableEntry}
-use Rattle.bd_tails.specs.Tails.{AreTails}
+use Rattle.bd_tails.specs.Tails.{AreTails, slot_bytes}
 use Rattle.bd_pager.specs.declared.place.Spot.{Spot}
 use Rattle.bd_pager.specs.declared.usage.Usage.{Usage}
 use Rattle.bd_pager.specs.declared.written.Written.{Written}
 use Rattle.bd_pager.specs.Counting.{AreUnused, is_in_memory, has_own, spot_count, IsTallied}
-use Rattle.bd_pager.specs.Slots.{slot_bytes, HasNode, IsOfLevel}
+use Rattle.bd_format.specs.Slots.{HasNode}
+use Rattle.bd_pager.specs.Slots.{IsOfLevel}
 use Rattle.bd_pager.specs.Places.{spots_in, refs_in, level_in, slot_in, copy_at, copy_in, told}
 use Rattle.bd_pager.specs.Entries.{saved_spot, AreSavedSpots}
 use Rattle.bd_pager.specs.Opened.{root_spot, AreOpened, IsOpened, IsUnchanged}

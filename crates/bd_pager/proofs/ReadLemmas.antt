@@ -9,7 +9,9 @@ use Rattle.bd_node.specs.declared.node.Node.{Node}
 use Rattle.bd_node.specs.Nodes.{level_of}
 use Rattle.bd_node.specs.Shape.{IsShape}
 use Rattle.bd_tails.proofs.Blocks.{row_size}
-use Rattle.bd_pager.specs.Slots.{slot_bytes, HasNode, HasNoNode, IsOfLevel}
+use Rattle.bd_tails.specs.Tails.{slot_bytes}
+use Rattle.bd_format.specs.Slots.{HasNode}
+use Rattle.bd_pager.specs.Slots.{HasNoNode, IsOfLevel}
 
 -- ---- what a slot has
 

@@ -10,7 +10,9 @@ use Rattle.bd_node.specs.Shape.{IsShape}
 use Rattle.bd_pager.specs.declared.place.Place.{Place}
 use Rattle.bd_pager.specs.declared.place.Place.TheVariants.{Memory, Slot}
 use Rattle.bd_pager.specs.declared.place.Spot.{Spot}
-use Rattle.bd_pager.specs.Slots.{slot_bytes, HasNode, IsOfLevel}
+use Rattle.bd_tails.specs.Tails.{slot_bytes}
+use Rattle.bd_format.specs.Slots.{HasNode}
+use Rattle.bd_pager.specs.Slots.{IsOfLevel}
 use Rattle.bd_pager.specs.Places.{Spots, copy_at, copy_in, level_in, node_at, node_of, told, IsAlone, IsRead, IsReadAt, ArePlaced}
 
 -- what was read of a node that is in a slot alone, since the device was lent last

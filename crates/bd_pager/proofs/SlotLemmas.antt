@@ -20,7 +20,9 @@ use Rattle.bd_node.specs.declared.node.Node.{Node}
 use Rattle.bd_node.specs.Nodes.{level_of}
 use Rattle.bd_node.specs.Shape.{IsShape}
 use Rattle.bd_pager.specs.Places.{told}
-use Rattle.bd_pager.specs.Slots.{slot_bytes, HasNode, IsOfLevel, IsBadSlot, IsOfSlot, IsSpare}
+use Rattle.bd_tails.specs.Tails.{slot_bytes, IsOfSlot}
+use Rattle.bd_format.specs.Slots.{HasNode}
+use Rattle.bd_pager.specs.Slots.{IsOfLevel, IsBadSlot, IsSpare}
 
 -- ---- where the bytes stay
 

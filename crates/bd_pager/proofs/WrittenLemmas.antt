@@ -3,7 +3,7 @@ use Rattle.std.proofs.Common.{◌≡◌, ◌≤◌, ◌<◌, ◌+◌, ◌/◌, �
 use Rattle.std.specs.Prelude.{All, slice_get}
 use Rattle.std.proofs.lemmas.Bool.{true≢false}
 use Rattle.std.proofs.lemmas.Option.{get_or_from_slice_get}
-use Rattle.bd_slots.specs.Slots.{IsFree, free_count}
+use Rattle.bd_slots.specs.Slots.{IsFree, free_count, slot_if}
 use Rattle.bd_device.specs.Blocks.{Image}
 use Rattle.bd_device.specs.declared.device.Device.{Ghosts}
 use Rattle.bd_node.proofs.Sums.{sum_at}
@@ -12,7 +12,7 @@ use Rattle.std.proofs.lemmas.List.{get_or_default}
 use Rattle.bd_device.specs.Blocks.{Image}
 use Rattle.bd_device.specs.Changes.{StaysBut}
 use Rattle.bd_slots.specs.Layout.{slot_block}
-use Rattle.bd_tails.specs.Tails.{used_of, AreTails, AreForgotten}
+use Rattle.bd_tails.specs.Tails.{used_of, AreTails, AreForgotten, IsOfSlot}
 use Rattle.bd_tails.specs.declared.tails.Tails.{Tails}
 use Rattle.bd_tails.proofs.Known.{zero_stays}
 use Rattle.bd_pager.specs.declared.draft.Draft.{Draft}
@@ -21,13 +21,13 @@ use Rattle.bd_pager.specs.declared.place.Place.TheVariants.{Memory, Slot}
 use Rattle.bd_pager.specs.declared.place.Spot.{Spot}
 use Rattle.bd_pager.specs.declared.usage.Usage.{Usage}
 use Rattle.bd_pager.specs.declared.written.Written.{Written}
-use Rattle.bd_pager.specs.Changing.{slot_if, own_slot}
+use Rattle.bd_pager.specs.Changing.{own_slot}
 use Rattle.bd_pager.specs.Counting.{AreBelow, AreUnused, has_own, is_in_memory, spot_count, IsTallied}
 use Rattle.bd_pager.specs.Drafts.{AreKeptIds, HaveTable, IsDraftOf}
 use Rattle.bd_pager.specs.Moving.{OnlyMoves}
 use Rattle.bd_pager.specs.Pagers.{Paged, spots_of, is_changed, is_changed_place, IsPaged, IsReady}
 use Rattle.bd_pager.specs.Places.{Spots, refs_in, level_in, slot_at, slot_in}
-use Rattle.bd_pager.specs.Slots.{IsOfSlot, IsSpare}
+use Rattle.bd_pager.specs.Slots.{IsSpare}
 use Rattle.bd_pager.proofs.CountingLemmas.{flag, flag_small, count_kept}
 use Rattle.bd_pager.proofs.KeptLemmas.{sum_le}
 use Rattle.bd_pager.proofs.MovingLemmas.{by_memory, AreApartFrom}

@@ -1,18 +1,13 @@
 -- Nodes that are changed in memory.
-use Rattle.std.specs.Prelude.{◌≡◌, ◌≢◌, ℕ, Bool, true, false, List, Option, None, Some, slice_get}
+use Rattle.std.specs.Prelude.{◌≡◌, ◌≢◌, ℕ, Bool, List, Option, Some, slice_get}
 use Rattle.std.specs.Global.{Global}
 use Rattle.std.specs.declared.rc.Rc.{Rc}
 use Rattle.bd_node.specs.declared.node.Node.{Node}
+use Rattle.bd_slots.specs.Slots.{slot_if}
 use Rattle.bd_pager.specs.declared.place.Place.{Place}
 use Rattle.bd_pager.specs.declared.place.Place.TheVariants.{Memory, Slot}
 use Rattle.bd_pager.specs.declared.place.Spot.{Spot}
 use Rattle.bd_pager.specs.Places.{Spots}
-
--- the slot, where it is a spare one
-abbrev pub slot_if : Option Bool → ℕ → Option ℕ
-slot_if None slot = None
-slot_if (Some false) slot = None
-slot_if (Some true) slot = Some slot
 
 -- the slot that a node from this place has of its own once it is changed
 abbrev pub own_slot : List Bool → Place → Option ℕ

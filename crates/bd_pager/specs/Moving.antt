@@ -16,7 +16,9 @@ use Rattle.bd_pager.specs.declared.place.Place.{Place}
 use Rattle.bd_pager.specs.declared.place.Place.TheVariants.{Memory, Slot}
 use Rattle.bd_pager.specs.declared.place.Spot.{Spot}
 use Rattle.bd_pager.specs.Counting.{is_in_memory}
-use Rattle.bd_pager.specs.Slots.{HasNode, IsOfLevel, IsOfSlot, IsSpare}
+use Rattle.bd_tails.specs.Tails.{IsOfSlot}
+use Rattle.bd_format.specs.Slots.{HasNode}
+use Rattle.bd_pager.specs.Slots.{IsOfLevel, IsSpare}
 use Rattle.bd_pager.specs.Places.{Spots, refs_in, level_in, slot_in, copy_in, nodes_at, NoneTurnsBad}
 use Rattle.bd_pager.specs.Pagers.{Paged, spots_of, is_changed, IsKnownOver, is_known}
 

@@ -15,7 +15,8 @@ use Rattle.bd_tails.specs.Tails.{AreTails}
 use Rattle.bd_pager.specs.declared.place.Place.TheVariants.{Slot}
 use Rattle.bd_pager.specs.declared.place.Spot.{Spot}
 use Rattle.bd_pager.specs.declared.usage.Usage.{Usage}
-use Rattle.bd_pager.specs.Slots.{HasNode, HasNoNode, IsOfLevel}
+use Rattle.bd_format.specs.Slots.{HasNode}
+use Rattle.bd_pager.specs.Slots.{HasNoNode, IsOfLevel}
 use Rattle.bd_pager.specs.Places.{Spots}
 use Rattle.bd_pager.specs.Pagers.{Paged, spots_of}
 use Rattle.bd_pager.specs.Entries.{saved_spot}

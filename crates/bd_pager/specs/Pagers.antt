@@ -17,9 +17,8 @@ use Rattle.bd_node.specs.Tables.{Table, IsTable, IsSound}
 use Rattle.bd_table.specs.Tables.{AreFreeSlots, IsTableAt, slots_of}
 use Rattle.bd_table.specs.declared.table.Table.{Table as Checkpoint}
 use Rattle.bd_table.specs.declared.table.TableEntry.{TableEntry}
-use Rattle.bd_tails.specs.Tails.{AreTails}
+use Rattle.bd_tails.specs.Tails.{AreTails, slot_bytes}
 use Rattle.bd_tails.specs.declared.tails.Tails.{Tails}
-use Rattle.bd_pager.specs.Slots.{slot_bytes}
 use Rattle.bd_pager.specs.Places.{Spots, refs_in, level_in, copy_in, told, nodes_at, AreCached, ArePlaced, IsBadSpot}
 use Rattle.bd_pager.specs.declared.place.Place.{Place}
 use Rattle.bd_pager.specs.declared.place.Place.TheVariants.{Memory, Slot}

@@ -7,7 +7,9 @@ use Rattle.bd_cache.specs.Cache.{kept_at}
 use Rattle.bd_cache.specs.declared.cache.NodeCache.{NodeCache}
 use Rattle.bd_node.specs.declared.node.Node.{Node}
 use Rattle.bd_node.specs.Meaning.{Nodes}
-use Rattle.bd_pager.specs.Slots.{slot_bytes, HasNode, IsOfLevel, IsBadSlot}
+use Rattle.bd_tails.specs.Tails.{slot_bytes}
+use Rattle.bd_format.specs.Slots.{HasNode}
+use Rattle.bd_pager.specs.Slots.{IsOfLevel, IsBadSlot}
 use Rattle.bd_pager.specs.declared.place.Place.{Place}
 use Rattle.bd_pager.specs.declared.place.Place.TheVariants.{Memory, Slot}
 use Rattle.bd_pager.specs.declared.place.Spot.{Spot}

@@ -1,19 +1,13 @@
--- What the slots of an image have.
+-- What the slots of an image have, and what they don't.
 use Rattle.std.specs.Prelude.{◌≡◌, ℕ, List, Bool, Option, IfSome}
 use Rattle.bd_slots.specs.Layout.{slot_block}
 use Rattle.bd_slots.specs.Slots.{IsFree}
 use Rattle.bd_device.specs.Blocks.{Image}
-pub use Rattle.bd_tails.specs.Tails.{slot_bytes, IsOfSlot}
-use Rattle.bd_format.specs.Images.{IsImage}
+use Rattle.bd_tails.specs.Tails.{IsOfSlot}
+use Rattle.bd_format.specs.Slots.{HasNode}
 use Rattle.bd_node.specs.declared.node.Node.{Node}
 use Rattle.bd_node.specs.Nodes.{level_of}
 use Rattle.bd_node.specs.Shape.{IsShape}
-
--- the slot has this well-formed node, which is of this level
-pub record HasNode (image : Image) (slot level : ℕ) (n : Node) : Type 0 where
-  pub shape : IsShape n
-  pub level_is : level_of n ≡ level
-  pub image_is : IsImage n (slot_bytes image slot)
 
 -- the slot has no well-formed node of this level
 abbrev pub HasNoNode : Image → ℕ → ℕ → Type 0

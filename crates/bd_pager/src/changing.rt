@@ -1,13 +1,13 @@
 //! Nodes that are changed in memory.
 
-ghost use Rattle.std.specs.Prelude.{◌≡◌, ◌<◌, ℕ, Some, IsSome, IfSome, OnOk, OnErr, length, slice_get};
+ghost use Rattle.std.specs.Prelude.{◌≡◌, ◌<◌, ℕ, Some, IsSome, IfSome, OnOk, OnErr};
 ghost use Rattle.bd_node.specs.declared.node.Node.{Node};
 ghost use Rattle.bd_node.specs.Nodes.{appended};
 ghost use Rattle.bd_pager.specs.Places.{spots_in, copy_at, copy_in};
 ghost use Rattle.bd_pager.specs.Pagers.{IsPlaceIn};
 ghost use Rattle.bd_pager.specs.Counting.{AreUnused, IsListed, IsTallied};
 ghost use Rattle.bd_pager.specs.Stepping.{HasRoomFor};
-ghost use Rattle.bd_pager.specs.Changing.{slot_if, IsChangedPlace, IsChangedSpot, IsChangedAt};
+ghost use Rattle.bd_pager.specs.Changing.{IsChangedPlace, IsChangedSpot, IsChangedAt};
 
 use crate::place::{Place, Spot};
 use crate::usage::{IN_MEMORY, Usage, tally_of};
@@ -112,7 +112,7 @@ fn appended(
             node: Some(mut node),
         } => match append_to(alloc, &mut node, list) {
             Ok(()) => {
-                let slot = slot_if_spare(spare, slot);
+                let slot = spare.slot_if_free(slot);
                 (Place::Memory { node, slot }, Ok(()))
             }
             Err(fault) => {
@@ -121,18 +121,6 @@ fn appended(
             }
         },
         Place::Slot { slot, node: None } => (Place::Slot { slot, node: None }, Ok(())),
-    }
-}
-
-/// The slot, where it is a spare one.
-pub fn slot_if_spare(spare: &SlotSet, slot: u32) -> Option<u32>
-    requires { slot < length spare.now }
-    ensures { result ≡ slot_if (slice_get spare.now slot) slot }
-{
-    if spare.is_free(slot) {
-        Some(slot)
-    } else {
-        None
     }
 }
 

@@ -9,7 +9,8 @@ ghost use Rattle.bd_device.specs.Commits.{block_at};
 ghost use Rattle.bd_pager.specs.Keeping.{KeepsSaved};
 ghost use Rattle.bd_pager.specs.Moving.{Spills};
 ghost use Rattle.bd_pager.specs.Pagers.{Paged, is_known, nodes_of, table_of, IsReadOf};
-ghost use Rattle.bd_pager.specs.Slots.{slot_bytes, IsSpare};
+ghost use Rattle.bd_tails.specs.Tails.{slot_bytes};
+ghost use Rattle.bd_pager.specs.Slots.{IsSpare};
 
 use bd_device::Device;
 

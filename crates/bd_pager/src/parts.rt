@@ -9,7 +9,8 @@ ghost use Rattle.bd_tails.specs.Tails.{AreTails};
 ghost use Rattle.bd_pager.specs.Fresh.{AreFreshParts, IsFreshUsage, assembled};
 ghost use Rattle.bd_pager.specs.Opened.{AreOpened, IsOpened, IsUnchanged, IsBadStart};
 ghost use Rattle.bd_pager.specs.Places.{spots_in};
-ghost use Rattle.bd_pager.specs.Slots.{HasNode, IsOfLevel, IsBadSlot};
+ghost use Rattle.bd_format.specs.Slots.{HasNode};
+ghost use Rattle.bd_pager.specs.Slots.{IsOfLevel, IsBadSlot};
 
 use crate::entries::{root_entry, saved_spots, spare_beside};
 use crate::place::{Place, Spot};

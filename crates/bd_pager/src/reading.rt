@@ -4,7 +4,8 @@ ghost use Rattle.std.specs.Prelude.{◌≡◌, ◌≢◌, IfOk, IfSome, MatchOpt
 ghost use Rattle.bd_node.specs.Nodes.{level_of};
 ghost use Rattle.bd_device.specs.Device.{OnlyReads, HasImageCause};
 ghost use Rattle.bd_tails.specs.Tails.{AreTails};
-ghost use Rattle.bd_pager.specs.Slots.{HasNode, IsOfLevel, IsBadSlot};
+ghost use Rattle.bd_format.specs.Slots.{HasNode};
+ghost use Rattle.bd_pager.specs.Slots.{IsOfLevel, IsBadSlot};
 
 use bd_device::{Device, ImageFault};
 use bd_format::decode;

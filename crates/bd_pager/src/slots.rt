@@ -9,7 +9,7 @@ ghost use Rattle.bd_device.specs.Device.{left_now, Goes, Stays, FailsLast};
 ghost use Rattle.bd_node.specs.Nodes.{level_of};
 ghost use Rattle.bd_node.specs.Shape.{IsShape};
 ghost use Rattle.bd_tails.specs.Tails.{AreTails, IsOfSlot};
-ghost use Rattle.bd_pager.specs.Slots.{HasNode};
+ghost use Rattle.bd_format.specs.Slots.{HasNode};
 
 use bd_device::Device;
 use bd_format::encode;

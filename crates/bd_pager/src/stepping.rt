@@ -13,7 +13,6 @@ ghost use Rattle.bd_pager.specs.Pagers.{IsPlaceIn};
 ghost use Rattle.bd_pager.specs.Places.{spots_in};
 ghost use Rattle.bd_pager.specs.Stepping.{HasRoomFor, put_at, put_spot, own_slot_in, with_put, with_count, without_all, put_usage};
 
-use crate::changing::slot_if_spare;
 use crate::place::{Place, Spot, refs_of};
 use crate::usage::{IN_MEMORY, NOWHERE, Usage, tally_of};
 use bd_cache::NodeCache;
@@ -105,7 +104,7 @@ fn own_slot(old: Option<&Spot>, spare: &SlotSet) -> Option<u32>
 {
     match &old?.place {
         Place::Memory { slot, .. } => *slot,
-        Place::Slot { slot, .. } => slot_if_spare(spare, *slot),
+        Place::Slot { slot, .. } => spare.slot_if_free(*slot),
     }
 }
 

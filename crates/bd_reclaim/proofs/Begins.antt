@@ -31,9 +31,9 @@ use Rattle.bd_step.proofs.Making.{worn_known}
 use Rattle.bd_node.proofs.Parts.{edge_within}
 use Rattle.bd_flush.proofs.RootSplits.{up_lower}
 use Rattle.bd_step.proofs.Waiting.{fullest_waits, pending_waits}
-use Rattle.bd_reclaim.proofs.Decisions.{as_reclaimed}
-use Rattle.bd_reclaim.specs.Covering.{HasCut}
-use Rattle.bd_reclaim.specs.Reclaimed.{IsReclaimed}
+use Rattle.bd_cover.proofs.Decisions.{as_reclaimed}
+use Rattle.bd_cover.specs.Covering.{HasCut}
+use Rattle.bd_cover.specs.Reclaimed.{IsReclaimed}
 use Rattle.bd_reclaim.specs.Pushing.{IsSplitFirst, IsPushStep, IsPushFound, IsPushMade, IsWornPush}
 use Rattle.bd_reclaim.specs.Pushing.IsSplitFirst.{at_root, asked_through, below, further}
 

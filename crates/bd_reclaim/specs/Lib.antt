@@ -1,4 +1,2 @@
-pub mod Covering
-pub mod Walking
 pub mod Pushing
-pub mod Reclaimed
+pub mod Changes

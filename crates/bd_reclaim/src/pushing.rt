@@ -13,8 +13,8 @@ ghost use Rattle.bd_path.specs.Fetching.{IsFetched, IsEdgeTo, IsOwn, AreOwn};
 ghost use Rattle.bd_path.specs.Raising.{IsWayUp};
 ghost use Rattle.bd_step.specs.Ways.{IsDue, IsWaited, IsStanding, IsReached, IsWayOf, IsWayThere};
 ghost use Rattle.bd_step.specs.Steps.{step_visits};
-ghost use Rattle.bd_reclaim.specs.Covering.{HasCut};
-ghost use Rattle.bd_reclaim.specs.Reclaimed.{IsReclaimed};
+ghost use Rattle.bd_cover.specs.Covering.{HasCut};
+ghost use Rattle.bd_cover.specs.Reclaimed.{IsReclaimed};
 ghost use Rattle.bd_reclaim.specs.Pushing.{IsSplitFirst, IsPushStep, IsPushFound, IsPushMade, IsWornPush};
 
 use bd_limits::FULL_EDGES;

@@ -21,7 +21,7 @@ use Rattle.bd_pager.specs.declared.place.Spot.{Spot}
 use Rattle.bd_pager.specs.Keeping.{KeepsSaved}
 use Rattle.bd_pager.specs.Places.{refs_in, node_at, node_of, told}
 use Rattle.bd_pager.specs.Pagers.{Paged, spots_of, table_of, nodes_of, is_saved, is_changed, is_changed_place, is_known, IsRightPlace, IsPlaceIn, IsStoredAs, IsPaged}
-use Rattle.bd_pager.specs.Slots.{slot_bytes}
+use Rattle.bd_tails.specs.Tails.{slot_bytes}
 use Rattle.bd_pager.proofs.AskedLemmas.{unchanged_held}
 use Rattle.bd_view.specs.Moves.{OnlyNodes}
 use Rattle.bd_shown.specs.Shown.{ids_of, tree_of, shown}

@@ -1,6 +1,6 @@
 // A set of free slots.
-ghost use Rattle.std.specs.Prelude.{◌≡◌, ◌↔◌, true, false, replicate, slice_set, length, ◌<◌, IsTrue, IsNone, IfOk, IfSome, IfNone};
-ghost use Rattle.bd_slots.specs.Slots.{IsFree, IsHeld, IsFirstFree, free_count};
+ghost use Rattle.std.specs.Prelude.{◌≡◌, ◌↔◌, true, false, replicate, slice_get, slice_set, length, ◌<◌, IsTrue, IsNone, IfOk, IfSome, IfNone};
+ghost use Rattle.bd_slots.specs.Slots.{IsFree, IsHeld, IsFirstFree, free_count, slot_if};
 
 use crate::words;
 use std::alloc::{AllocError, Global};
@@ -84,6 +84,14 @@ impl SlotSet {
         ensures { IsTrue result ↔ IsFree self.now slot }
     {
         words::is_set(self.words.as_slice(), slot as usize)
+    }
+
+    /// The slot, where it is a free one.
+    pub fn slot_if_free(&self, slot: u32) -> Option<u32>
+        requires { slot < length self.now }
+        ensures { result ≡ slot_if (slice_get self.now slot) slot }
+    {
+        if self.is_free(slot) { Some(slot) } else { None }
     }
 
     /// How many slots there are.

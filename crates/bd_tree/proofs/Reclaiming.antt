@@ -6,7 +6,7 @@ use Rattle.bd_node.specs.declared.store.NodeStore.{Ghosts}
 use Rattle.bd_node.specs.Frames.{OnlyReads}
 use Rattle.bd_node.specs.Meaning.{Nodes}
 use Rattle.bd_node.specs.Tables.{Table, root_at}
-use Rattle.bd_reclaim.specs.Reclaimed.{IsReclaimed}
+use Rattle.bd_cover.specs.Reclaimed.{IsReclaimed}
 
 -- reads leave what the tree has
 pub same_read : {S : Type 0} (g : Ghosts S) (old new : S) → g.is_known old → OnlyReads g old new → SameAt (root_at (g.nodes old) (g.table old)) (root_at (g.nodes new) (g.table new))

@@ -3,11 +3,11 @@ use Rattle.std.proofs.Common.{◌≡◌, ℕ, ◌<◌, sym, ap, ◌∙◌, arith
 use Rattle.std.proofs.lemmas.Bool.{cases_lt}
 use Rattle.std.specs.Prelude.{Some}
 use Rattle.bd_node.specs.declared.node.Node.{Node}
-use Rattle.bd_reclaim.specs.declared.covering.Cover.TheVariants.{Gone}
-use Rattle.bd_reclaim.specs.Covering.{HasNoCovered}
-use Rattle.bd_reclaim.specs.Walking.IsUnder.{itself}
-use Rattle.bd_reclaim.specs.declared.walking.Reclaim.{Reclaim}
-use Rattle.bd_reclaim.specs.declared.walking.Reclaim.TheVariants.{Shrink, Drop, Redirect, Push}
+use Rattle.bd_cover.specs.declared.covering.Cover.TheVariants.{Gone}
+use Rattle.bd_cover.specs.Covering.{HasNoCovered}
+use Rattle.bd_cover.specs.Walking.IsUnder.{itself}
+use Rattle.bd_cover.specs.declared.walking.Reclaim.{Reclaim}
+use Rattle.bd_cover.specs.declared.walking.Reclaim.TheVariants.{Shrink, Drop, Redirect, Push}
 use Rattle.bd_view.specs.Views.{View, changed_count, free_slots}
 use Rattle.bd_view.specs.Reclaiming.{HasRoomFor, IsReclaim, IsReclaimFull, edge_need}
 use Rattle.bd_view.specs.Reclaiming.IsReclaimFull.{first, edge, last}

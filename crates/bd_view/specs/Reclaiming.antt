@@ -1,9 +1,10 @@
 -- How reclaiming moves the view of a volume on a device.
 use Rattle.std.specs.Prelude.{◌≡◌, ℕ, ◌+◌, ◌≤◌, ◌&&◌, nat_le, nat_lt, Bool, ⊤}
-use Rattle.bd_reclaim.specs.declared.walking.Reclaim.{Reclaim}
-use Rattle.bd_reclaim.specs.declared.walking.Reclaim.TheVariants.{Shrink, Drop, Redirect, Push}
-use Rattle.bd_reclaim.specs.Walking.{IsFirst, HasNone}
-use Rattle.bd_reclaim.specs.Reclaimed.{IsReclaimed, IsReclaimMade}
+use Rattle.bd_cover.specs.declared.walking.Reclaim.{Reclaim}
+use Rattle.bd_cover.specs.declared.walking.Reclaim.TheVariants.{Shrink, Drop, Redirect, Push}
+use Rattle.bd_cover.specs.Walking.{IsFirst, HasNone}
+use Rattle.bd_cover.specs.Reclaimed.{IsReclaimed}
+use Rattle.bd_reclaim.specs.Changes.{IsReclaimMade}
 use Rattle.bd_view.specs.Views.{View, height, free_slots, save_slots}
 use Rattle.bd_view.specs.Moves.{OnlyNodes, Saves, IsCheckpointFull, CannotSave}
 

@@ -12,11 +12,12 @@ use Rattle.bd_node.specs.Meaning.{Nodes}
 use Rattle.bd_node.specs.Steps.{IsWornBy}
 use Rattle.bd_node.specs.Tables.{Table, IsSound}
 use Rattle.bd_step.proofs.Making.{step_known}
-use Rattle.bd_reclaim.specs.declared.walking.Reclaim.{Reclaim}
-use Rattle.bd_reclaim.specs.declared.walking.Reclaim.TheVariants.{Shrink, Drop, Redirect, Push}
-use Rattle.bd_reclaim.specs.Reclaimed.{IsWornChange, LeavesLess, left_over, root_only}
-use Rattle.bd_reclaim.specs.Walking.{IsFirst, IfPush}
-use Rattle.bd_reclaim.specs.Walking.IsFirst.{here, below}
+use Rattle.bd_cover.specs.declared.walking.Reclaim.{Reclaim}
+use Rattle.bd_cover.specs.declared.walking.Reclaim.TheVariants.{Shrink, Drop, Redirect, Push}
+use Rattle.bd_cover.specs.Reclaimed.{left_over, root_only}
+use Rattle.bd_reclaim.specs.Changes.{IsWornChange, LeavesLess}
+use Rattle.bd_cover.specs.Walking.{IsFirst, IfPush}
+use Rattle.bd_cover.specs.Walking.IsFirst.{here, below}
 use Rattle.bd_view.specs.Views.{View, changed_count, free_slots}
 use Rattle.bd_view.specs.Moves.{Saves}
 use Rattle.bd_view.specs.Reclaiming.{push_limit, allows_push, push_need, pushes_in, HasRoomFor, IsNextChange, HasNoChange, Reclaims, AreReclaims}

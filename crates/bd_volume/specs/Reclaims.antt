@@ -1,8 +1,8 @@
 -- How a volume makes changes of reclaiming, and why it stops.
 use Rattle.std.specs.Prelude.{◌≡◌, ℕ, ◌+◌, ◌^◌, ◌≤◌, ◌⊎◌, Option, None, Some, ⊤}
 use Rattle.bd_message.specs.declared.fault.Counter.TheVariants.{Epoch}
-use Rattle.bd_reclaim.specs.declared.walking.Reclaim.{Reclaim}
-use Rattle.bd_reclaim.specs.Reclaimed.{LeavesLess}
+use Rattle.bd_cover.specs.declared.walking.Reclaim.{Reclaim}
+use Rattle.bd_reclaim.specs.Changes.{LeavesLess}
 use Rattle.bd_view.specs.Views.{View, changed_count, free_slots, save_slots}
 use Rattle.bd_view.specs.Moves.{CannotSave}
 use Rattle.bd_view.specs.Reclaiming.{edge_need, pushes_in, HasRoomFor, IsNextChange, HasNoChange, Reclaims, SavesBetween, AreReclaims, IsReclaimFull}

@@ -13,8 +13,8 @@ use Rattle.bd_dirs.specs.Kinds.{Kind, Reads, Sends, SendsLate, Grafts, kind_of}
 use Rattle.bd_node.specs.Tables.{IsSound}
 use Rattle.bd_graft.specs.Grafting.{IsWornByGraft, IsWornForGraft}
 use Rattle.bd_step.specs.Steps.{IsWornToFlush}
-use Rattle.bd_reclaim.specs.declared.walking.Reclaim.{Reclaim}
-use Rattle.bd_reclaim.specs.Reclaimed.{IsWornChange}
+use Rattle.bd_cover.specs.declared.walking.Reclaim.{Reclaim}
+use Rattle.bd_reclaim.specs.Changes.{IsWornChange}
 use Rattle.bd_pager.specs.Pagers.{table_of}
 use Rattle.bd_view.specs.Trees.{TreeView, waiting_limit}
 use Rattle.bd_super.specs.Live.{IsLive}

@@ -1,27 +1,7 @@
-//! The program: a shell over a volume in an image. It reads words, attaches the image, takes a
-//! script and writes a reply a line, or makes an image. `run` is the one top call; its contract ties
-//! what it writes to the plain map.
+//! The program: `run` over a file, standard input and standard output.
 #![tactic(auto)]
 
-mod acknowledged;
-#[cfg(test)]
-mod failing;
-mod fault;
-mod fill;
-mod format;
-mod laws;
-mod outcome;
-mod row;
-#[cfg(test)]
-mod rows;
-mod run;
-mod session;
-mod shell;
-#[cfg(test)]
-mod spoiled;
-#[cfg(test)]
-mod tests;
-
+use bd_calls::run;
 use bd_filedev::FileDevice;
 use bd_io::{StdSink, StdSource};
 use std::env;
@@ -41,7 +21,7 @@ fn status(rt: &HostRuntime) -> io::Result<u8> {
     let mut dev = FileDevice::new(rt);
     let mut src = StdSource::new(rt.reader());
     let mut sink = StdSink::new(rt.alloc(), io::writer(rt))?;
-    Ok(run::run(rt.alloc(), &words, &mut dev, &mut src, &mut sink).status)
+    Ok(run(rt.alloc(), &words, &mut dev, &mut src, &mut sink).status)
 }
 
 /// The words that the program is called with. Where one of them isn't UTF-8 there are none, which

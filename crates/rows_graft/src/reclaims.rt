@@ -1,11 +1,11 @@
 //! Nodes that go once their keys are cut, beside a map.
 
 use crate::graft::generated;
+use bd_cover::Reclaim;
 use bd_keys::Bytes;
 use bd_memnodes::MemNodes;
 use bd_message::Message;
 use bd_node::{Node, NodeStore};
-use bd_reclaim::Reclaim;
 use bd_tree::Tree;
 use rows_tools::{Both, Numbers, flush, message};
 use std::alloc::{AllocError, Global};

@@ -3,16 +3,17 @@
 ghost use Rattle.std.specs.Prelude.{◌≡◌, ◌<◌, ◌^◌, IfOk, IfSome, MatchOption, OnOk, OnErr};
 ghost use Rattle.bd_message.specs.KeyMaps.{NeverWorn, SameAt};
 ghost use Rattle.bd_pager.specs.Pagers.{nodes_of, table_of};
-ghost use Rattle.bd_reclaim.specs.Walking.{IsFirst, HasNone};
-ghost use Rattle.bd_reclaim.specs.Reclaimed.{IsReclaimed, IsReclaimMade, LeavesLess, left_over};
+ghost use Rattle.bd_cover.specs.Walking.{IsFirst, HasNone};
+ghost use Rattle.bd_cover.specs.Reclaimed.{IsReclaimed, left_over};
+ghost use Rattle.bd_reclaim.specs.Changes.{IsReclaimMade, LeavesLess};
 ghost use Rattle.bd_view.specs.Reclaiming.{edge_need, push_need};
 ghost use Rattle.bd_engine.specs.Engines.{view_of, keys_of, IsSoundOn, HasCause, IsReadOn, OnlyNodesOn};
 ghost use Rattle.bd_engine.specs.Reclaiming.{MayMake, IsWornToChange};
 
 use super::Engine;
+use bd_cover::Reclaim;
 use bd_device::Device;
 use bd_message::MapFault;
-use bd_reclaim::Reclaim;
 
 // How many slots the change of an edge may need.
 const EDGE_SLOTS: u64 = 4;

@@ -17,8 +17,8 @@ ghost use Rattle.bd_volume.specs.Reclaims.{ChangesOnce, IsChangedTo, ChangesAll,
 
 use super::Volume;
 use crate::fault::Fault;
+use bd_cover::Reclaim;
 use bd_device::Device;
-use bd_reclaim::Reclaim;
 
 // The most pushes of one reclaiming.
 const MAX_PUSHES: u64 = 4_096;

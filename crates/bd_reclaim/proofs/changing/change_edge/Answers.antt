@@ -1,4 +1,4 @@
-use Rattle.bd_reclaim.proofs.Decisions.{is_to_decide, may_decide, decide_in_place, on_reclaimed, on_decided, on_falls, on_no_higher, decide_worn}
+use Rattle.bd_cover.proofs.Decisions.{is_to_decide, may_decide, decide_in_place, on_reclaimed, on_decided, on_falls, on_no_higher, decide_worn}
 use Rattle.bd_reclaim.proofs.changing.change_edge.Goals as goal
 
 pub commit-requires-clause-step : goal.commit-requires-clause-step

@@ -1,6 +1,6 @@
 use Rattle.std.proofs.Common.{sym, ◌∙◌, arith}
 use Rattle.bd_node.proofs.Parts.{edge_here}
-use Rattle.bd_reclaim.proofs.Covers.{place_low, past_all}
+use Rattle.bd_cover.proofs.Covers.{place_low, past_all}
 use Rattle.bd_reclaim.proofs.Begins.{found_it, none_asks_more, some_asks}
 use Rattle.bd_reclaim.proofs.pushing.place_of.Goals as goal
 

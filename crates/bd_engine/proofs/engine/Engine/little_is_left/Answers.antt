@@ -1,7 +1,7 @@
 use Rattle.std.proofs.Common.{◌<◌, ◌^◌, subst, arith}
 use Rattle.bd_node.specs.Tables.{IsSound}
 use Rattle.bd_pager.specs.Pagers.{Paged, nodes_of, table_of}
-use Rattle.bd_reclaim.specs.Reclaimed.{left_over}
+use Rattle.bd_cover.specs.Reclaimed.{left_over}
 use Rattle.bd_engine.specs.Engines.{EngineState, IsSoundOn}
 use Rattle.bd_engine.proofs.Remaining.{left_low}
 use Rattle.bd_engine.proofs.engine.Engine.little_is_left.Goals as goal

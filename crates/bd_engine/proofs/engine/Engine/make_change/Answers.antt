@@ -3,7 +3,8 @@ use Rattle.std.proofs.Common.{refl, subst, sym}
 use Rattle.std.specs.Prelude.{OnOk, OnErr}
 use Rattle.bd_message.specs.KeyMaps.{SameAt}
 use Rattle.bd_pager.specs.Pagers.{nodes_of, table_of}
-use Rattle.bd_reclaim.specs.Reclaimed.{IsReclaimed, IsReclaimMade, LeavesLess}
+use Rattle.bd_cover.specs.Reclaimed.{IsReclaimed}
+use Rattle.bd_reclaim.specs.Changes.{IsReclaimMade, LeavesLess}
 use Rattle.bd_engine.specs.Engines.{EngineState, seen, keys_of, IsSoundOn, HasCause, IsReadOn, OnlyNodesOn}
 use Rattle.bd_engine.specs.Reclaiming.{MayMake, IsWornToChange}
 use Rattle.bd_engine.proofs.Left.{kept_standing, only_nodes_on, paged_at, stays_sound, err_read}

@@ -3,7 +3,7 @@ use Rattle.std.proofs.Common.{subst}
 use Rattle.std.specs.Prelude.{IfOk, MatchOption}
 use Rattle.bd_pager.specs.Calling.{read_keeps}
 use Rattle.bd_pager.specs.Pagers.{nodes_of, table_of}
-use Rattle.bd_reclaim.specs.Walking.{IsFirst, HasNone}
+use Rattle.bd_cover.specs.Walking.{IsFirst, HasNone}
 use Rattle.bd_engine.specs.Engines.{EngineState, seen, IsSoundOn, IsReadOn}
 use Rattle.bd_engine.proofs.Left.{kept_standing, read_on, read_sound, read_keeps_sound}
 use Rattle.bd_engine.proofs.Reclaims.{may_make}

@@ -6,7 +6,7 @@ use Rattle.bd_table.specs.Image.{HoldsTable}
 use Rattle.bd_table.specs.Tables.{AreFreeSlots, IsTableAt, slots_of}
 use Rattle.bd_table.specs.declared.table.TableEntry.{TableEntry}
 use Rattle.bd_tails.specs.Tails.{AreTails}
-use Rattle.bd_pager.specs.Slots.{HasNode}
+use Rattle.bd_format.specs.Slots.{HasNode}
 use Rattle.bd_pager.proofs.parts.Parts.read.Goals as goal
 
 pub returns-clause-parts : goal.returns-clause-parts

@@ -3,7 +3,7 @@ use Rattle.std.proofs.Common.{Option, None, sym, subst, ◌∙◌}
 use Rattle.std.specs.Prelude.{MatchOption}
 use Rattle.std.proofs.lemmas.Bool.{false≢true}
 use Rattle.std.proofs.lemmas.Result.{err_from_is_err_and}
-use Rattle.bd_reclaim.specs.declared.walking.Reclaim.{Reclaim}
+use Rattle.bd_cover.specs.declared.walking.Reclaim.{Reclaim}
 use Rattle.bd_view.specs.Views.{View}
 use Rattle.bd_view.specs.Reclaiming.{IsNextChange, HasNoChange}
 use Rattle.bd_volume.specs.declared.fault.Fault.{Fault}

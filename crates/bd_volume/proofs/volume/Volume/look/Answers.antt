@@ -4,7 +4,7 @@ use Rattle.std.specs.Prelude.{MatchOption}
 use Rattle.std.proofs.lemmas.Result.{err_from_is_err_and}
 use Rattle.bd_message.specs.KeyMaps.{NeverWorn}
 use Rattle.bd_pager.specs.Pagers.{is_bad}
-use Rattle.bd_reclaim.specs.Walking.{IsFirst, HasNone}
+use Rattle.bd_cover.specs.Walking.{IsFirst, HasNone}
 use Rattle.bd_engine.specs.Engines.{EngineState}
 use Rattle.bd_volume.specs.Volume.{view_of}
 use Rattle.bd_volume.proofs.Called.{read_fails}

@@ -1,0 +1,6 @@
+pub mod Ending
+pub mod Runs
+pub mod Trees
+pub mod Walks
+pub mod Fills
+pub mod Unread

@@ -1,0 +1,533 @@
+-- How a whole run begins and ends.
+use Rattle.std.proofs.Common.{◌≡◌, ◌⊎◌, ◌≢◌, ◌↔◌, ℕ, ◌+◌, ◌^◌, ◌<◌, ◌≤◌, Bool, false, List, [], ◌∷◌, ◌++◌, length, refl, sym, ap, subst, ◌∙◌, arith, inl, inr, length-append}
+use Rattle.std.specs.Prelude.{map, is_err, IfSome, IsSomeAnd, OnOk}
+use Rattle.std.specs.List.{AllByRecursion, Contains, list_any}
+use Rattle.std.specs.declared.result.Result.{Result}
+use Rattle.std.specs.declared.result.Result.TheVariants.{Ok, Err}
+use Rattle.std.specs.declared.option.Option.{Option}
+use Rattle.std.specs.declared.option.Option.TheVariants.{None, Some}
+use Rattle.std.specs.Io.KnownBytes.{prepend_known}
+use Rattle.std.proofs.lemmas.Bool.{cases_lt}
+use Rattle.std.proofs.lemmas.List.Elements.{Contains-push}
+use Rattle.bd_limits.specs.Limits.{script_limit}
+use Rattle.bd_io.specs.Cause.{Rose, IsCounted, next_count}
+use Rattle.bd_io.specs.Takes.{Takes}
+use Rattle.bd_message.specs.declared.fault.Counter.{Counter}
+use Rattle.bd_model.specs.Tree.{Tree}
+use Rattle.bd_device.specs.Blocks.{Image, HasBlocks}
+use Rattle.bd_device.specs.Device.{left_now, Goes}
+use Rattle.bd_device.specs.Moments.{Nothing, Elapses}
+use Rattle.bd_device.specs.declared.device.Device.{Ghosts}
+use Rattle.bd_device.proofs.Moments.{goes_on, within, by_name}
+use Rattle.bd_image.specs.ImageTree.{ImageStandsFor}
+use Rattle.bd_checkpoint.specs.Kept.{AllStandFor}
+use Rattle.bd_checkpoint.specs.Recovering.{IsBadIn}
+use Rattle.bd_view.specs.Views.{View, fresh_view}
+use Rattle.bd_engine.specs.Stored.{HasSaved}
+use Rattle.bd_script.specs.Lines.{is_stop, line_of, lines_of}
+use Rattle.bd_volume.specs.Faults.{IsStartCause}
+use Rattle.bd_volume.specs.Starts.{OnlyStarts}
+use Rattle.bd_volume.specs.Volume.{IsFirstView}
+use Rattle.bd_volume.specs.Wears.{WearsReplaying}
+use Rattle.bd_volume.specs.declared.fault.Fault.{Fault as VolumeFault}
+use Rattle.bd_volume.specs.declared.fault.Fault.TheVariants as volume
+use Rattle.bd_shell.specs.declared.fault.Fault.{Fault}
+use Rattle.bd_shell.specs.declared.fault.Fault.TheVariants.{Device, Damaged, Source, Memory, TooLong, Worn, Sink}
+use Rattle.bd_shell.specs.declared.outcome.Ack.{Ack}
+use Rattle.bd_shell.specs.declared.shell.Shell.{Shell}
+use Rattle.bd_shell.specs.Fault.{status_of, Faults, faults, IsStartFault, Caused, IsCaused}
+use Rattle.bd_shell.specs.Transcript.{State, point, state_at, with_view, Exchange, Entry, IsTranscript, executed, exchanges_of, state_after, lines_to_run}
+use Rattle.bd_shell.specs.Crashes.{IsAtPoint, IsAcked, IsSafeSince}
+use Rattle.bd_shell.specs.Session.{end_of, has_stop, closed, ClosedAt, Among, TakenAt, Replied, Ends as EndsBy, Session}
+use Rattle.bd_shell.specs.Shell.{CanStart, MayStart, ShellAt, IsLineFault, NamesBad, view_in, acks_in, device_in, stop_in}
+use Rattle.bd_calls.specs.Run.{Disk, disk, Ends, ends, end_status, WritesEnd, IsTold, IsWornAtStart, IsUnopened, Survives, Shows, NamesDamage, Ran, HasStart, IsFaultless}
+use Rattle.bd_shell.proofs.Executes.{append_known-nil}
+use Rattle.bd_shell.proofs.Scripts.{prepend_known-nil, took_none}
+use Rattle.bd_shell.proofs.Surviving.{since_begun, safe_more}
+use Rattle.bd_calls.proofs.Ending.{settled_all, closed_idle, some_blocks, shown_by}
+use Rattle.bd_shell.proofs.Keeping.{closed_passed}
+use Rattle.bd_shell.proofs.Starts.{at_begun, begun_at}
+
+-- what holds of one value holds of the same
+pub as_last : {E : Type 0} (P : E → Type 0) (e f : E) → e ≡ f → P f → P e
+as_last P e f same h = subst P (sym same) h
+
+-- lists that begin with something are the same beyond it
+pub same_tail : {A : Type 0} (x y : A) (xs ys : List A) → x ∷ xs ≡ y ∷ ys → xs ≡ ys
+same_tail x y xs ys is = cc
+
+-- an Ok call was counted
+pub counted_once : {T E : Type 0} (before now : ℕ) (r : Result T E) → IsCounted before now r → is_err r ≡ false → now ≡ before + 1
+counted_once before now (Ok x) h ok = by (cases_lt (before + 1) (2 ^ 64))
+  where
+    by : (before + 1 < 2 ^ 64) ⊎ (2 ^ 64 ≤ before + 1) → now ≡ before + 1
+    by (inl low) = omega (arith, low, h.counted)
+    by (inr last) = let none = h.last last in cc
+counted_once before now (Err e) h ok = cc
+
+-- what is said of the call that the words make
+pub of_call : {A : Type 0} (P : A → Type 0) (o : Option A) (x : A) → Some x ≡ o → P x → IfSome o P
+of_call P o x is h = subst (λ o. IfSome o P) is h
+
+-- ---- a session as a run of an image
+
+-- what is known is the image
+can_start : (t : Tree) (n : ℕ) (known : Option Image) (image : Image) → known ≡ Some image → ImageStandsFor t n image → CanStart t n known
+can_start t n known image is stands = subst (CanStart t n) (sym is) stands
+
+if_some : {A : Type 0} (P : A → Type 0) (o : Option A) (x : A) → o ≡ Some x → IfSome o P → P x
+if_some P o x is h = subst (λ o. IfSome o P) is h
+
+-- damage of a session is of a bad block of what is then known
+pub names_damage : {T : Type 0} (r : Result T Fault) (before now : Option Image) → NamesBad now r → (xs : List Exchange) → NamesDamage (end_of r) xs before now
+names_damage (Ok x) before now h xs = tt
+names_damage (Err Device) before now h xs = tt
+names_damage (Err (Damaged block)) before now h xs = inr h
+names_damage (Err Source) before now h xs = tt
+names_damage (Err Memory) before now h xs = tt
+names_damage (Err TooLong) before now h xs = tt
+names_damage (Err (Worn which)) before now h xs = tt
+names_damage (Err Sink) before now h xs = tt
+
+-- a session that ended well
+pub ok_of_none : {T : Type 0} (r : Result T Fault) (P : Type 0) → end_of r ≡ None → OnOk r P → P
+ok_of_none (Ok x) P is h = h
+ok_of_none (Err e) P is h = cc
+
+-- what is told of a device
+abbrev pub disk_of : {D : Type 0} → Ghosts D → D → Disk
+disk_of g d = disk (g.contents d) (g.call_count d) (g.left_since d) (g.write_fault_count d)
+
+module _ {D : Type 0} (g : Ghosts D) where
+  -- the view doesn't count
+  as_view : (first : D) (since : ℕ) (now : D) (acks : List Ack) (u : State) (left : View) → IsSafeSince g first since now acks (with_view u left)
+      → IsSafeSince g first since now acks u
+  as_view first since now acks u left safe = safe_more g first since now acks (with_view u left) u (λ p h. h) (omega arith) safe.here refl safe
+
+  -- what a crash leaves at a session's end
+  ended_safe : (end : Option Fault) (stopped : Bool) (u : State) (first : D) (since : ℕ) (shell : Shell D)
+      → EndsBy end u (ClosedAt end (ShellAt g first since shell) stopped)
+      → IsSafeSince g first since (device_in shell) (acks_in shell) (closed end stopped u)
+  ended_safe None stopped u first since shell h = h.safe
+  ended_safe (Some Device) stopped u first since shell h = as_view first since (device_in shell) (acks_in shell) u h.1.left h.1.reached.safe
+  ended_safe (Some (Damaged block)) stopped u first since shell h = absurd h
+  ended_safe (Some Source) stopped u first since shell h = h.safe
+  ended_safe (Some Memory) stopped u first since shell h = as_view first since (device_in shell) (acks_in shell) u h.1.left h.1.reached.safe
+  ended_safe (Some TooLong) stopped u first since shell h = h.safe
+  ended_safe (Some (Worn which)) stopped u first since shell h = as_view first since (device_in shell) (acks_in shell) u h.1.left h.1.reached.safe
+  ended_safe (Some Sink) stopped u first since shell h = h.safe
+
+  -- from the start of the volume on
+  survives : (settled : ℕ) (xs : List Exchange) (old first now : D) (acks : List Ack) (x : State) → Goes g old first (IsAtPoint x.passed 0)
+      → IsSafeSince g first settled now acks x → Survives settled xs acks (disk_of g old) (disk_of g now) x
+  survives settled xs old first now acks x started safe = record {
+    stopped = goes_on (IsAtPoint x.passed 0) (IsAtPoint x.passed 0) started safe.time (λ c h. h);
+    opened = inl (since_begun g first settled now acks x safe);
+    acked = safe.acked;
+    counts = safe.counts;
+  }
+
+  -- at the end of a script what is shown stands for the state
+  shown_last : (end : Option Fault) (stopped : Bool) (u : State) (first : D) (since : ℕ) (shell : Shell D) → end ≡ None
+      → EndsBy end u (ClosedAt end (ShellAt g first since shell) stopped) → (closed end stopped u).view.waiting ≡ 0 → stop_in shell ≡ None
+      → IfSome (g.contents (device_in shell)) (left_now g (device_in shell)) → IfSome (g.contents (device_in shell)) (HasSaved (view_in g shell))
+      → IfSome (g.contents (device_in shell)) (Shows (closed end stopped u))
+  shown_last None stopped u first since shell none h idle going among saved =
+      let x : State = closed None stopped u in
+      shown_by (g.contents (device_in shell)) (left_now g (device_in shell)) (view_in g shell) x h.at.view_is
+      (settled_all g _ x.tree x.count h.at.stands going (ap (λ (v : View). v.waiting) h.at.view_is ∙ idle)) among saved
+  shown_last (Some e) stopped u first since shell none h idle going among saved = cc
+
+  -- a session of a volume that started
+  pub ran_session : (end : Option Fault) (old : D) (before after : Shell D) (script rest w1 w2 : Option (List ℕ)) (t1 t2 : Option Takes) (b a : Faults)
+      → Session end (ShellAt g (device_in before) (g.call_count old + 1) before) (ClosedAt end (ShellAt g (device_in before) (g.call_count old + 1) after))
+      script rest t1 t2 w1 w2
+      → ((t : Tree) (n : ℕ) → CanStart t n (g.contents old) → ShellAt g (device_in before) (g.call_count old + 1) before (state_at t n (view_in g before)))
+      → ((t : Tree) (n : ℕ) → IfSome (g.contents old) (λ image. ImageStandsFor t n image → IsFirstView image (view_in g before)))
+      → OnlyStarts g old (device_in before) → (end ≡ None → stop_in after ≡ None)
+      → (stop_in after ≡ None → IfSome (g.contents (device_in after)) (HasSaved (view_in g after)))
+      → (0 < g.block_count (device_in after) → IfSome (g.contents (device_in after)) (left_now g (device_in after)))
+      → IfSome (g.contents old) (HasBlocks (g.block_count old)) → g.block_count (device_in after) ≡ g.block_count old
+      → ((xs : List Exchange) → NamesDamage end xs (g.contents old) (g.contents (device_in after)))
+      → Ran (g.call_count old + 1) end (acks_in after) (ends (disk_of g old) script t1 w1 b) (ends (disk_of g (device_in after)) rest t2 w2 a)
+  ran_session end old before after script rest w1 w2 t1 t2 b a s begins views only going saved may_stay shape same_size damage = record {
+    exchanges = s.exchanges;
+    answered = s.answered;
+    front = s.front;
+    final = s.final;
+    taken = s.taken;
+    taken_is = s.taken_is;
+    script_is = s.script_is;
+    took = s.took;
+    begins = s.begins;
+    among_taken = s.among_taken;
+    among_script = s.among_script;
+    taken_at = s.taken_at;
+    replied = s.replied;
+    damage = damage s.exchanges;
+    transcribed = λ t n image is stands.
+        let x0 : State = state_at t n (view_in g before) in
+        let start : CanStart t n (g.contents old) = can_start t n (g.contents old) image is stands in
+        let h = s.runs x0 (begins t n start) in
+        let u : State = state_after x0 h.entries in
+        let x : State = closed end (has_stop s.exchanges) u in
+        let passed : Contains x.passed (point t n) = closed_passed end (has_stop s.exchanges) x0 h.entries h.transcript (point t n) (Contains-push [] (point t n)) in
+        let lines : has_stop s.exchanges ≡ list_any is_stop (executed (exchanges_of h.entries)) = ap has_stop (sym h.exchanges_are) in
+        record {
+          first = view_in g before;
+          first_is = inl (if_some (λ i. ImageStandsFor t n i → IsFirstView i (view_in g before)) (g.contents old) image is (views t n) stands);
+          run = record {
+            entries = h.entries;
+            exchanges_are = h.exchanges_are;
+            transcript = h.transcript;
+            reached = record {
+              told = inl (record { told = h.reached.told; told_script = h.reached.told_script });
+              survives = survives (g.call_count old + 1) s.exchanges old (device_in before) (device_in after) (acks_in after)
+                  x (within (ImageStandsFor t n) (IsAtPoint x.passed 0) (only.time t n start) (λ c like. at_begun x.passed t n c passed like))
+                  (ended_safe end (has_stop s.exchanges) u (device_in before) (g.call_count old + 1) after h.reached.reached);
+              shown = λ none. shown_last end (has_stop s.exchanges) u (device_in before) (g.call_count old + 1) after none h.reached.reached
+                  (idle_at end s.exchanges s.taken none s.among_taken x0 h.entries h.transcript h.exchanges_are) (going none)
+                  (may_stay (omega (arith, same_size, some_blocks t n (g.block_count old) (g.contents old) image is stands shape))) (saved (going none));
+            };
+          };
+        };
+  }
+    where
+      idle_at : (e : Option Fault) (xs : List Exchange) (taken : List ℕ) → e ≡ None → Among e taken xs → (x0 : State) (es : List Entry) → IsTranscript x0 es
+          → exchanges_of es ≡ xs → (closed e (has_stop xs) (state_after x0 es)).view.waiting ≡ 0
+      idle_at None xs taken none among x0 es transcript is =
+          subst (λ ys. (closed None (has_stop ys) (state_after x0 es)).view.waiting ≡ 0) is
+          (closed_idle x0 es (map line_of (lines_of taken)) transcript (ap executed is ∙ among))
+      idle_at (Some e) xs taken none among x0 es transcript is = cc
+
+-- ---- a volume that didn't start
+
+-- a count of faults rose, or it didn't
+rose_or_not : (before now : ℕ) → Rose before now ⊎ (Rose before now → ⊥)
+rose_or_not before now = by (cases_lt before now) (cases_lt (now + 1) (2 ^ 64))
+  where
+    neither : now ≤ before → now + 1 < 2 ^ 64 → Rose before now → ⊥
+    neither few low (inl rose) = omega (arith, few, rose)
+    neither few low (inr last) = omega (arith, low, last)
+
+    by : (before < now) ⊎ (now ≤ before) → (now + 1 < 2 ^ 64) ⊎ (2 ^ 64 ≤ now + 1) → Rose before now ⊎ (Rose before now → ⊥)
+    by (inl rose) last = inl (inl rose)
+    by (inr few) (inl low) = inr (neither few low)
+    by (inr few) (inr last) = inl (inr last)
+
+-- the volume's barrier, which returns after so many calls, wasn't made, or it failed
+abbrev pub IsUnmade : ℕ → Disk → Disk → Type 0
+IsUnmade settled before now = (now.calls < settled) ⊎ ((now.calls ≤ settled) × Rose before.write_faults now.write_faults)
+
+-- nothing was executed: the volume didn't start
+pub ran_refused : (settled : ℕ) (e : Fault) (before now : Disk) (script w : Option (List ℕ)) (takes : Option Takes) (b a : Faults) → IsLineFault e
+    → ((t : Tree) (n : ℕ) (image : Image) → before.image ≡ Some image → ImageStandsFor t n image → (block : ℕ) → e ≡ Damaged block → ⊥)
+    → ((t : Tree) (n : ℕ) (image : Image) → before.image ≡ Some image → ImageStandsFor t n image → (which : Counter) → e ≡ Worn which
+    → WearsReplaying which image)
+    → ((t : Tree) (n : ℕ) (image : Image) → before.image ≡ Some image → ImageStandsFor t n image → Elapses before.calls now.calls before.left now.left (ImageStandsFor t n))
+    → ((t : Tree) (n : ℕ) (image : Image) → before.image ≡ Some image → ImageStandsFor t n image → AllStandFor t n (now.left settled) ⊎ IsUnmade settled before now)
+    → ((block : ℕ) → e ≡ Damaged block → IsBadIn before.image block)
+    → Ran settled (Some e) [] (ends before script takes w b) (ends now script takes w a)
+ran_refused settled e before now script w takes b a kind sound worn time opened bad = record {
+  exchanges = [];
+  answered = tt;
+  front = [];
+  final = [];
+  taken = [];
+  taken_is = refl;
+  script_is = sym (prepend_known-nil script);
+  took = took_none takes;
+  begins = record { rest = []; lines_are = refl; no_stop = refl };
+  among_taken = at_line e [] kind;
+  among_script = all e script kind;
+  taken_at = few e kind;
+  replied = unwritten e kind;
+  damage = named e bad;
+  transcribed = λ t n i is stands. record {
+    first = fresh_view 0;
+    first_is = inr (refl, refl);
+    run = record {
+      entries = [];
+      exchanges_are = refl;
+      transcript = tt;
+      reached = record {
+        told = tells e kind (sound t n i is stands) i (worn t n i is stands) (state_at t n (fresh_view 0));
+        survives = record {
+          stopped = within (ImageStandsFor t n) (IsAtPoint (state_at t n (fresh_view 0)).passed 0) (time t n i is stands) (begun_at t n (fresh_view 0));
+          opened = open_by t n (opened t n i is stands);
+          acked = tt;
+          counts = refl;
+        };
+        shown = λ none. cc;
+      };
+    };
+  };
+}
+  where
+    open_by : (t : Tree) (n : ℕ) → AllStandFor t n (now.left settled) ⊎ IsUnmade settled before now
+        → ((c : Image) → now.left settled c → IsAtPoint (state_at t n (fresh_view 0)).passed 0 c) ⊎ IsUnopened settled [] before now
+    open_by t n (inl each) = inl (λ c left. begun_at t n (fresh_view 0) c (each c left))
+    open_by t n (inr why) = inr (record { none = refl; why = why })
+
+    at_line : (f : Fault) (bs : List ℕ) → IsLineFault f → Among (Some f) bs []
+    at_line Device bs k = (lines_to_run bs, refl)
+    at_line (Damaged block) bs k = inl refl
+    at_line Source bs k = absurd k
+    at_line Memory bs k = (lines_to_run bs, refl)
+    at_line TooLong bs k = absurd k
+    at_line (Worn which) bs k = inl refl
+    at_line Sink bs k = absurd k
+
+    all : (f : Fault) (o : Option (List ℕ)) → IsLineFault f → IfSome o (λ bs. Among (Some f) bs [])
+    all f None k = tt
+    all f (Some bs) k = at_line f bs k
+
+    few : (f : Fault) → IsLineFault f → TakenAt (Some f) [] []
+    few Device k = omega arith
+    few (Damaged block) k = omega arith
+    few Source k = absurd k
+    few Memory k = omega arith
+    few TooLong k = absurd k
+    few (Worn which) k = omega arith
+    few Sink k = absurd k
+
+    named : (f : Fault) → ((block : ℕ) → f ≡ Damaged block → IsBadIn before.image block) → NamesDamage (Some f) [] before.image now.image
+    named Device bad_at = tt
+    named (Damaged block) bad_at = inl (refl, bad_at block refl)
+    named Source bad_at = tt
+    named Memory bad_at = tt
+    named TooLong bad_at = tt
+    named (Worn which) bad_at = tt
+    named Sink bad_at = tt
+
+    unwritten : (f : Fault) → IsLineFault f → Replied (Some f) [] [] [] w w
+    unwritten Device k = sym (append_known-nil w)
+    unwritten (Damaged block) k = sym (append_known-nil w)
+    unwritten Source k = absurd k
+    unwritten Memory k = sym (append_known-nil w)
+    unwritten TooLong k = absurd k
+    unwritten (Worn which) k = sym (append_known-nil w)
+    unwritten Sink k = absurd k
+
+    any_script : (P : Type 0) (o : Option (List ℕ)) → P → IfSome o (λ _. P)
+    any_script P None h = tt
+    any_script P (Some bs) h = h
+
+    tells : (f : Fault) → IsLineFault f → ((block : ℕ) → f ≡ Damaged block → ⊥) → (i : Image) → ((which : Counter) → f ≡ Worn which → WearsReplaying which i)
+        → (u : State) → IsTold (Some f) [] [] script u ⊎ IsWornAtStart (Some f) [] i
+    tells Device k sound_at i worn u = inl (record { told = tt; told_script = any_script (Unit {0}) script tt })
+    tells (Damaged block) k sound_at i worn u = absurd (sound_at block refl)
+    tells Source k sound_at i worn u = absurd k
+    tells Memory k sound_at i worn u = inl (record { told = tt; told_script = any_script (Unit {0}) script tt })
+    tells TooLong k sound_at i worn u = absurd k
+    tells (Worn which) k sound_at i worn u = inr (record { which = which; end_is = refl; none = refl; worn = worn which refl })
+    tells Sink k sound_at i worn u = absurd k
+
+-- the run's fault is as the volume's
+pub start_kind : (v : VolumeFault) (e : Fault) → IsStartFault v e → IsLineFault e
+start_kind volume.Device e is = subst IsLineFault (sym is) tt
+start_kind (volume.Damaged block) e is = subst IsLineFault (sym is) tt
+start_kind (volume.Worn which) e is = subst IsLineFault (sym is) tt
+start_kind volume.NoMemory e is = subst IsLineFault (sym is) tt
+start_kind (volume.Full free need) e is = absurd is
+start_kind (volume.Stopped call) e is = absurd is
+
+pub start_damaged : (v : VolumeFault) (e : Fault) (block : ℕ) → IsStartFault v e → e ≡ Damaged block → v ≡ volume.Damaged block
+start_damaged volume.Device e block is damaged = cc
+start_damaged (volume.Damaged other) e block is damaged = let same : other ≡ block = cc in ap volume.Damaged same
+start_damaged (volume.Worn which) e block is damaged = cc
+start_damaged volume.NoMemory e block is damaged = cc
+start_damaged (volume.Full free need) e block is damaged = absurd is
+start_damaged (volume.Stopped call) e block is damaged = absurd is
+
+pub start_worn : (v : VolumeFault) (e : Fault) (which : Counter) → IsStartFault v e → e ≡ Worn which → v ≡ volume.Worn which
+start_worn volume.Device e which is worn = cc
+start_worn (volume.Damaged block) e which is worn = cc
+start_worn (volume.Worn other) e which is worn = let same : other ≡ which = cc in ap volume.Worn same
+start_worn volume.NoMemory e which is worn = cc
+start_worn (volume.Full free need) e which is worn = absurd is
+start_worn (volume.Stopped call) e which is worn = absurd is
+
+-- a start that failed
+pub ran_unstarted : {D : Type 0} (g : Ghosts D) (v : VolumeFault) (e : Fault) (old now : D) (script w : Option (List ℕ)) (takes : Option Takes) (b a : Faults)
+    → IsStartFault v e → IsStartCause g old now v → ((t : Tree) (n : ℕ) → CanStart t n (g.contents old) → (block : ℕ) → v ≢ volume.Damaged block)
+    → ((t : Tree) (n : ℕ) → IfSome (g.contents old) (λ image. ImageStandsFor t n image → (which : Counter) → v ≡ volume.Worn which → WearsReplaying which image))
+    → OnlyStarts g old now → MayStart g old now → IfSome (g.contents old) (HasBlocks (g.block_count old))
+    → Ran (g.call_count old + 1) (Some e) [] (ends (disk_of g old) script takes w b) (ends (disk_of g now) script takes w a)
+ran_unstarted g v e old now script w takes b a fault cause sound wears left starts shape =
+    ran_refused (g.call_count old + 1) e (disk_of g old) (disk_of g now) script w takes b a (start_kind v e fault)
+    (λ t n image is stands block damaged. sound t n (can_start t n (g.contents old) image is stands) block (start_damaged v e block fault damaged))
+    (λ t n image is stands which worn. if_some (λ i. ImageStandsFor t n i → (c : Counter) → v ≡ volume.Worn c → WearsReplaying c i) (g.contents old) image is (wears t n)
+    stands which (start_worn v e which fault worn))
+    (λ t n image is stands. left.time t n (can_start t n (g.contents old) image is stands))
+    (λ t n image is stands. by t n (can_start t n (g.contents old) image is stands) (some_blocks t n (g.block_count old) (g.contents old) image is stands shape)
+    (cases_lt (g.call_count old + 1) (g.call_count now)) (rose_or_not (g.write_fault_count old) (g.write_fault_count now)) starts)
+    (λ block damaged. (subst (IsStartCause g old now) (start_damaged v e block fault damaged) cause).0)
+  where
+    by : (t : Tree) (n : ℕ) → CanStart t n (g.contents old) → 0 < g.block_count old → (g.call_count old + 1 < g.call_count now) ⊎ (g.call_count now ≤ g.call_count old + 1)
+        → Rose (g.write_fault_count old) (g.write_fault_count now) ⊎ (Rose (g.write_fault_count old) (g.write_fault_count now) → ⊥)
+        → MayStart g old now → AllStandFor t n (g.left_since now (g.call_count old + 1)) ⊎ IsUnmade (g.call_count old + 1) (disk_of g old) (disk_of g now)
+    by t n start some many rose (inl same) = inr (inl (omega (arith, same)))
+    by t n start some (inl many) rose (inr h) = inl (h some (λ first. omega (arith, first.few, many)) t n start).each
+    by t n start some (inr few) (inl rose) (inr h) = inr (inr (few, rose))
+    by t n start some (inr few) (inr unrisen) (inr h) = inl (h some (λ first. unrisen first.rose) t n start).each
+
+-- ---- an image by its name
+
+acked_named : (s : State) (now : ℕ) (old new : ℕ → Image → Type 0) (acks : List Ack) → ((t : ℕ) (c : Image) → new t c → old t c)
+    → AllByRecursion (IsAcked s now old) acks → AllByRecursion (IsAcked s now new) acks
+acked_named s now old new [] same h = tt
+acked_named s now old new (a ∷ acks) same h =
+    (record { past = h.0.past; few = h.0.few; kept = λ c left. h.0.kept c (same a.calls c left) }, acked_named s now old new acks same h.1)
+
+-- what is left of a run by its image's name, which was attached
+pub ran_attached : (end : Option Fault) (acks : List Ack) (before mid after now : Disk) (script rest w1 w2 : Option (List ℕ)) (t1 t2 : Option Takes) (b m a : Faults)
+    → mid.image ≡ before.image → mid.calls ≡ before.calls + 1 → mid.write_faults ≡ before.write_faults
+    → Elapses before.calls mid.calls before.left mid.left Nothing → now.image ≡ after.image → now.calls ≡ after.calls → now.write_faults ≡ after.write_faults
+    → ((t : ℕ) (c : Image) → now.left t c ↔ after.left t c)
+    → Ran (mid.calls + 1) end acks (ends mid script t1 w1 m) (ends after rest t2 w2 a)
+    → Ran (before.calls + 2) end acks (ends before script t1 w1 b) (ends now rest t2 w2 a)
+ran_attached end acks before mid after now script rest w1 w2 t1 t2 b m a image_is calls_are faults_are time shows calls faults named r = record {
+  exchanges = r.exchanges;
+  answered = r.answered;
+  front = r.front;
+  final = r.final;
+  taken = r.taken;
+  taken_is = r.taken_is;
+  script_is = r.script_is;
+  took = r.took;
+  begins = r.begins;
+  among_taken = r.among_taken;
+  among_script = r.among_script;
+  taken_at = r.taken_at;
+  replied = r.replied;
+  damage = subst (λ o. NamesDamage end r.exchanges o now.image) image_is (subst (λ o. NamesDamage end r.exchanges mid.image o) (sym shows) r.damage);
+  transcribed = λ t n image is stands.
+      let h = r.transcribed t n image (image_is ∙ is) stands in
+      let x : State = closed end (has_stop r.exchanges) (state_after (state_at t n h.first) h.run.entries) in
+      let s = h.run.reached.survives in
+      record {
+        first = h.first;
+        first_is = h.first_is;
+        run = record {
+          entries = h.run.entries;
+          exchanges_are = h.run.exchanges_are;
+          transcript = h.run.transcript;
+          reached = record {
+            told = h.run.reached.told;
+            survives = record {
+              stopped = subst (λ k. Elapses before.calls k before.left now.left (IsAtPoint x.passed 0)) (sym calls)
+                  (by_name (IsAtPoint x.passed 0)
+                  (goes_on (IsAtPoint x.passed 0) (IsAtPoint x.passed 0) (within Nothing (IsAtPoint x.passed 0) time (λ c none. absurd none)) s.stopped (λ c p. p))
+                  named);
+              opened = open_by (mid.calls + 1) (before.calls + 2) (omega (arith, calls_are)) r.exchanges x s.opened;
+              acked = subst (λ k. AllByRecursion (IsAcked x k now.left) acks) (sym calls)
+                  (acked_named x after.calls after.left now.left acks (λ k c left. (named k c).0 left) s.acked);
+              counts = s.counts;
+            };
+            shown = λ none. subst (λ o. IfSome o (Shows x)) (sym shows) (h.run.reached.shown none);
+          };
+        };
+      };
+}
+  where
+    open_by : (k j : ℕ) → k ≡ j → (xs : List Exchange) (x : State) → ((c : Image) → after.left k c → IsAtPoint x.passed 0 c) ⊎ IsUnopened k xs mid after
+        → ((c : Image) → now.left j c → IsAtPoint x.passed 0 c) ⊎ IsUnopened j xs before now
+    open_by k j same xs x (inl f) = inl (λ c left. f c ((named k c).0 (subst (λ i. now.left i c) (sym same) left)))
+    open_by k j same xs x (inr h) = inr (record { none = h.none; why = why h.why })
+      where
+        why : IsUnmade k mid after → IsUnmade j before now
+        why (inl few) = inl (omega (arith, few, calls, same))
+        why (inr (few, rose)) = inr (omega (arith, few, calls, same), subst (λ i. Rose before.write_faults i) (sym faults) (subst (λ i. Rose i after.write_faults) faults_are rose))
+
+-- an attach that failed
+pub ran_detached : (before now : Disk) (script w : Option (List ℕ)) (takes : Option Takes) (b a : Faults) → now.calls ≡ next_count before.calls
+    → Elapses before.calls now.calls before.left now.left Nothing
+    → Ran (before.calls + 2) (Some Device) [] (ends before script takes w b) (ends now script takes w a)
+ran_detached before now script w takes b a once time =
+    ran_refused (before.calls + 2) Device before now script w takes b a tt (λ t n image is stands block damaged. cc) (λ t n image is stands which worn. cc)
+    (λ t n image is stands. within Nothing (ImageStandsFor t n) time (λ c none. absurd none))
+    (λ t n image is stands. inr (inl (omega (arith, once, next_few before.calls)))) (λ block damaged. cc)
+  where
+    next_few : (n : ℕ) → next_count n ≤ n + 1
+    next_few n = grind (arith)
+
+-- ---- causes
+
+pub cause_of : {T : Type 0} (r : Result T Fault) (before ended : Faults) → IsCaused before ended r → IfSome (end_of r) (λ e. Caused e before ended)
+cause_of (Ok x) before ended h = tt
+cause_of (Err e) before ended h = h.cause
+
+-- ---- statuses
+
+-- a fault has a status of its own
+pub never_zero : (e : Fault) → status_of e ≡ 0 → ⊥
+never_zero Device zero = omega (arith, zero)
+never_zero (Damaged block) zero = omega (arith, zero)
+never_zero Source zero = omega (arith, zero)
+never_zero Memory zero = omega (arith, zero)
+never_zero TooLong zero = omega (arith, zero)
+never_zero (Worn which) zero = omega (arith, zero)
+never_zero Sink zero = omega (arith, zero)
+
+-- at status 0 all counts stay, and what is kept back is what was then
+pub ended_well : {T : Type 0} (r : Result T Fault) (status : ℕ) (P : Type 0) → status ≡ end_status (end_of r) → OnOk r P → status ≡ 0 → P
+ended_well (Ok x) status P is h zero = h
+ended_well (Err e) status P is h zero = absurd (never_zero e (sym is ∙ zero))
+
+-- where no fault came, all counts are as before
+pub well_counts : {T : Type 0} (r : Result T Fault) (old new : Option (List ℕ)) (before ended now : Faults) → IsCaused before ended r
+    → WritesEnd (end_of r) old new ended now → OnOk r (now ≡ before)
+well_counts (Ok x) old new before ended now cause written = written.1 ∙ cause.kept
+well_counts (Err e) old new before ended now cause written = tt
+
+-- ---- where nothing fails
+
+rose_later : (a b d : ℕ) → b ≤ d → Rose a b → Rose a d
+rose_later a b d h (inl r) = inl (omega arith)
+rose_later a b d h (inr r) = inr (omega arith)
+
+-- a script of which more came than the limit is longer
+too_long : (script rest : Option (List ℕ)) (taken : List ℕ) → length taken ≡ script_limit + 1 → script ≡ prepend_known taken rest
+    → IsSomeAnd script (λ bytes. length bytes ≤ script_limit) → ⊥
+too_long script None taken long is short = subst (λ o. IsSomeAnd o (λ bytes. length bytes ≤ script_limit)) is short
+too_long script (Some more) taken long is short =
+    let few : length (taken ++ more) ≤ script_limit = subst (λ o. IsSomeAnd o (λ bytes. length bytes ≤ script_limit)) is short in
+    omega (arith, few, long, length-append taken more)
+
+-- an image that is known and stands for a tree has no damage
+undamaged : (settled block : ℕ) (acks : List Ack) (before now : Ends) → Ran settled (Some (Damaged block)) acks before now → IsSomeAnd before.disk.image HasStart → ⊥
+undamaged settled block acks before now r h = at before.disk.image refl h
+  where
+    never : (u : State) (xs : List Exchange) (taken : List ℕ) (script : Option (List ℕ)) (i : Image)
+        → IsTold (Some (Damaged block)) xs taken script u ⊎ IsWornAtStart (Some (Damaged block)) xs i → ⊥
+    never u xs taken script i (inl told) = told.told
+    never u xs taken script i (inr worn) = let is : ◌≡◌ {A = Option Fault} (Some (Damaged block)) (Some (Worn worn.which)) = worn.end_is in cc
+
+    at : (o : Option Image) → before.disk.image ≡ o → IsSomeAnd o HasStart → ⊥
+    at None is k = k
+    at (Some i) is k = never _ _ _ _ i (r.transcribed k.0 k.1 i is k.2).run.reached.told
+
+-- without a failure of the outside memory or a counter ended the run, if a fault did
+faultless_run : (settled : ℕ) (e : Fault) (acks : List Ack) (from now : Ends) (before ended : Faults) (later : ℕ) → Ran settled (Some e) acks from now
+    → Caused e before ended → ended.sink ≤ later → IsSomeAnd from.disk.image HasStart → IsSomeAnd from.script (λ bytes. length bytes ≤ script_limit)
+    → IsFaultless before (faults ended.device ended.source later) → (status_of e ≡ 6) ⊎ (status_of e ≡ 8)
+faultless_run settled Device acks from now before ended later r cause k stands short f = absurd (f.device cause.0)
+faultless_run settled (Damaged block) acks from now before ended later r cause k stands short f = absurd (undamaged settled block acks from now r stands)
+faultless_run settled Source acks from now before ended later r cause k stands short f = absurd (f.source cause.0)
+faultless_run settled Memory acks from now before ended later r cause k stands short f = inl refl
+faultless_run settled TooLong acks from now before ended later r cause k stands short f = absurd (too_long from.script now.script r.taken r.taken_at.0 r.script_is short)
+faultless_run settled (Worn which) acks from now before ended later r cause k stands short f = inr refl
+faultless_run settled Sink acks from now before ended later r cause k stands short f = absurd (f.sink (rose_later before.sink ended.sink later k cause.0))
+
+pub run_complete : {T : Type 0} (r : Result T Fault) (settled status : ℕ) (acks : List Ack) (from now : Ends) (before ended : Faults) (later : ℕ)
+    → status ≡ end_status (end_of r) → Ran settled (end_of r) acks from now → IsCaused before ended r → ended.sink ≤ later
+    → IsSomeAnd from.disk.image HasStart × IsSomeAnd from.script (λ bytes. length bytes ≤ script_limit)
+    → IsFaultless before (faults ended.device ended.source later) → (status ≡ 0) ⊎ (status ≡ 6) ⊎ (status ≡ 8)
+run_complete (Ok x) settled status acks from now before ended later is ran cause k ready f = inl is
+run_complete (Err e) settled status acks from now before ended later is ran cause k ready f =
+    either_status is (faultless_run settled e acks from now before ended later ran cause.cause k ready.0 ready.1 f)
+  where
+    either_status : {s of : ℕ} → s ≡ of → (of ≡ 6) ⊎ (of ≡ 8) → (s ≡ 0) ⊎ (s ≡ 6) ⊎ (s ≡ 8)
+    either_status same (inl six) = inr (inl (same ∙ six))
+    either_status same (inr eight) = inr (inr (same ∙ eight))

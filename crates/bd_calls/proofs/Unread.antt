@@ -1,0 +1,111 @@
+-- A call whose words aren't read, and words that are no call.
+use Rattle.std.proofs.Common.{◌≡◌, ◌⊎◌, ◌≢◌, ℕ, ◌+◌, ◌<◌, ◌≤◌, List, [], refl, sym, subst, ◌∙◌, arith, inl, inr, true≢false, Option, None, Some, Result, Ok, Err}
+use Rattle.std.specs.Prelude.{IfSome, IsNone}
+use Rattle.bd_io.specs.Takes.{Takes}
+use Rattle.bd_device.specs.Blocks.{Image}
+use Rattle.bd_device.specs.Moments.{Elapses}
+use Rattle.bd_device.specs.declared.device.Device.{Ghosts}
+use Rattle.bd_words.specs.Words.{Call, Run, Format, Fill, HasForm, call_of}
+use Rattle.bd_words.proofs.Forms.{form_is_call}
+use Rattle.bd_shell.specs.declared.fault.Fault.{Fault}
+use Rattle.bd_shell.specs.declared.fault.Fault.TheVariants.{Memory, Sink}
+use Rattle.bd_shell.specs.declared.outcome.Ack.{Ack}
+use Rattle.bd_shell.specs.Fault.{Faults, status_of}
+use Rattle.bd_calls.specs.Run.{Disk, Does, Makes, Seen, Uses, WritesEnd, end_status, ends}
+use Rattle.bd_shell.specs.Session.{end_of}
+use Rattle.bd_calls.proofs.Fills.{never_two}
+use Rattle.bd_calls.proofs.Runs.{ran_refused}
+
+-- ---- what is said of the call that the words make
+
+pub for_some : {A : Type 0} (P : A → Type 0) (o : Option A) → ((x : A) → P x) → IfSome o P
+for_some P None h = tt
+for_some P (Some x) h = h x
+
+pub of_none : {A : Type 0} (P : A → Type 0) (o : Option A) → o ≡ None → IfSome o P
+of_none P o is = subst (λ o. IfSome o P) (sym is) tt
+
+pub none_is : {A : Type 0} (o : Option A) → o ≡ None → IsNone o
+none_is o is = subst IsNone (sym is) refl
+
+-- a call's words make one
+pub some_call : {A : Type 0} (o : Option A) (x : A) → o ≡ Some x → IsNone o → ⊥
+some_call o x is none = true≢false (subst IsNone is none)
+
+-- a call ends with another status than refused words
+pub ended_known : {T : Type 0} (r : Result T Fault) (status : ℕ) → status ≡ end_status (end_of r) → status ≢ 2
+ended_known (Ok x) status is two = omega (arith, is, two)
+ended_known (Err e) status is two = never_two e (sym is ∙ two)
+
+-- words of a form aren't refused
+pub never_refused : (words : List (List ℕ)) (call : Call) → HasForm call words → call_of words ≡ None → ⊥
+never_refused words call form none = true≢false (subst IsNone (sym none ∙ form_is_call call words form) refl)
+
+-- ---- no memory for the words
+
+-- no call was made, so the same is left
+idle : (n : ℕ) (left : ℕ → Image → Type 0) (I : Image → Type 0) → Elapses n n left left I
+idle n left I = record {
+  later = omega arith;
+  keeps = λ t c early was. was;
+  adds = λ t c early is. inl is;
+}
+
+pub does_unread : (call : Call) (d : Disk) (script w w' : Option (List ℕ)) (takes : Option Takes) (b a : Faults) (status : ℕ) (acks : List Ack) → status ≡ status_of Memory
+    → acks ≡ [] → WritesEnd (Some Memory) w w' b a → Does call status acks (ends d script takes w b) (ends d script takes w' a)
+does_unread (Run image) d script w w' takes b a status acks is none last = subst (λ acks. Does (Run image) status acks (ends d script takes w b) (ends d script takes w' a)) (sym none) (record {
+  end = Some Memory;
+  status_is = is;
+  replies = w;
+  ended = b;
+  ran = ran_refused (d.calls + 2) Memory d d script w takes b b tt (λ t n image is stands block damaged. cc) (λ t n image is stands which worn. cc)
+      (λ t n image is stands. idle d.calls d.left _) (λ t n image is stands. inr (inl (omega arith))) (λ block damaged. cc);
+  cause = refl;
+  last = last;
+})
+does_unread (Format image slots) d script w w' takes b a status acks is none last = record {
+  end = Some Memory;
+  status_is = is;
+  replies = w;
+  ended = b;
+  script_stays = refl;
+  takes_stay = refl;
+  said = refl;
+  cause = refl;
+  last = last;
+  acked = none;
+}
+does_unread (Fill image seed count) d script w w' takes b a status acks is none last = inr (record {
+  status_is = is;
+  acked = none;
+  disk_stays = record { image = refl; calls = refl; left = λ call image. (λ was. was, λ is. is); write_faults = refl };
+  script_stays = refl;
+  takes_stay = refl;
+  last = last;
+})
+
+pub uses_unread : (call : Call) (status : ℕ) (before now : Seen) (N U T : Type 0) → status ≡ status_of Memory → U → T → Uses call status before now N U T
+uses_unread (Run image) status before now N U T is untouched untaken = inr (inr ((is, untouched), untaken))
+uses_unread (Format image slots) status before now N U T is untouched untaken = (inr (inr (is, untouched)), untaken)
+uses_unread (Fill image seed count) status before now N U T is untouched untaken = (inr (inr (is, untouched)), untaken)
+
+-- want of memory is another status than an end well or by the sink
+not_done : (status : ℕ) → status ≡ status_of Memory → (status ≡ 0) ⊎ (status ≡ 9) → ⊥
+not_done status is (inl zero) = omega (arith, is, zero)
+not_done status is (inr nine) = omega (arith, is, nine)
+
+pub makes_unread : {D : Type 0} (g : Ghosts D) (call : Call) (status : ℕ) (old new : D) → status ≡ status_of Memory → Makes g call status old new
+makes_unread g (Run image) status old new is = λ zero. absurd (not_done status is (inl zero))
+makes_unread g (Format image slots) status old new is = λ done. absurd (not_done status is done)
+makes_unread g (Fill image seed count) status old new is = λ done. absurd (not_done status is done)
+
+-- want of memory is one of the statuses that a call may end with where nothing fails
+pub complete_unread : {A : Type 0} (R : A → Type 0) (F : Type 0) (o : Option A) (status : ℕ) → status ≡ status_of Memory
+    → IfSome o (λ call. R call → F → (status ≡ 0) ⊎ (status ≡ 6) ⊎ (status ≡ 8))
+complete_unread R F None status is = tt
+complete_unread R F (Some call) status is = λ ready faultless. inr (inl is)
+
+-- want of memory isn't the sink's fault
+pub unread_flushed : {T P : Type 0} → (◌≡◌ {A = Result T Fault} (Err Memory) (Err Sink)) ⊎ P → P
+unread_flushed (inl same) = cc
+unread_flushed (inr flushed) = flushed

@@ -1,0 +1,10 @@
+pub mod Covers
+pub mod Cuts
+pub mod Joins
+pub mod Decided
+pub mod Falls
+pub mod Decisions
+pub mod Shrinks
+pub mod WaysUp
+pub mod Looks
+pub mod Visits

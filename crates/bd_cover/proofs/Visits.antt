@@ -1,0 +1,69 @@
+-- How many nodes the walk visits.
+use Rattle.std.proofs.Common.{◌≡◌, ℕ, zero, suc, ◌+◌, ◌<◌, ◌≤◌, List, length, take, get_or, sym, ap, ◌∙◌, Option, Some, arith}
+use Rattle.std.specs.Prelude.{nat_lt, ◌==◌, ◌&&◌}
+use Rattle.std.specs.List.{sum_by}
+use Rattle.std.proofs.lemmas.Bool.{cond-true, and_from, lt-ltb, eq-eqb}
+use Rattle.std.proofs.lemmas.List.Sums.{sum_by-take-le, sum_by_more}
+use Rattle.bd_node.specs.declared.node.Edge.{Edge}
+use Rattle.bd_node.specs.declared.node.Node.{Node}
+use Rattle.bd_node.specs.Meaning.{Nodes}
+use Rattle.bd_node.specs.Tables.{Table}
+use Rattle.bd_node.specs.Stores.{visited}
+use Rattle.bd_node.specs.Parts.{edges_of}
+use Rattle.bd_cover.specs.Walking.{IsWalked, at_walked, edges_in, walk_size}
+
+-- what the walk visits below an edge, if it goes at most so deep
+abbrev pub walked_at : Nodes → Table → ℕ → Edge → ℕ
+walked_at nodes t depth e = at_walked t (walk_size nodes t depth) e.child
+
+-- and below the edges before a place
+abbrev pub walked_before : Nodes → Table → ℕ → List Edge → ℕ → ℕ
+walked_before nodes t depth es place = sum_by (λ (e : Edge). walked_at nodes t depth e) (take place es)
+
+size_is : (nodes : Nodes) (t : Table) (depth id : ℕ) (n : Node) → nodes id ≡ Some n → walk_size nodes t (suc depth) id ≡ suc (sum_by (λ (e : Edge). walked_at nodes t depth e) (edges_of n))
+unfolding walk_size
+size_is nodes t depth id n there = ap (λ (o : Option Node). suc (sum_by (λ (e : Edge). walked_at nodes t depth e) (edges_in o))) there
+
+walked_is : (nodes : Nodes) (t : Table) (depth : ℕ) (e : Edge) (c : ℕ) → IsWalked t e c → walked_at nodes t depth e ≡ walk_size nodes t depth c
+walked_is nodes t depth e c h =
+    ap (λ (o : Option ℕ). at_walked t (walk_size nodes t depth) o) h.child_is
+    ∙ cond-true (t.count c == 1 && nat_lt 0 (t.level c)) (walk_size nodes t depth c) 0 (and_from _ _ (eq-eqb (t.count c) 1 h.once) (lt-ltb 0 (t.level c) h.inner))
+
+-- the node itself
+pub one_visit : (nodes : Nodes) (t : Table) (depth id before now : ℕ) → now ≡ visited before 1 → t.level id < depth → now ≤ before + walk_size nodes t depth id
+unfolding walk_size
+one_visit nodes t zero id before now is low = absurd (omega arith)
+one_visit nodes t (suc depth) id before now is low = omega arith
+
+-- below one more edge
+pub more_visits : (nodes : Nodes) (t : Table) (depth : ℕ) (es : List Edge) (place : ℕ) (e : Edge) (before now : ℕ) → place < length es → e ≡ get_or es place e → now ≤ before + suc (walked_before nodes t depth es place) → now ≤ before + suc (walked_before nodes t depth es (place + 1))
+more_visits nodes t depth es place e before now low read few =
+    omega (arith, few, sum_by_more (λ (x : Edge). walked_at nodes t depth x) es place e low)
+
+-- and below a child
+pub child_visits : (nodes : Nodes) (t : Table) (depth : ℕ) (es : List Edge) (place : ℕ) (e : Edge) (c before now then : ℕ) → place < length es → e ≡ get_or es place e → IsWalked t e c → now ≤ before + suc (walked_before nodes t depth es place) → then ≤ now + walk_size nodes t depth c
+    → then ≤ before + suc (walked_before nodes t depth es (place + 1))
+child_visits nodes t depth es place e c before now then low read walked few more =
+    let own : walked_at nodes t depth (get_or es place e) ≡ walk_size nodes t depth c = ap (λ (x : Edge). walked_at nodes t depth x) (sym read) ∙ walked_is nodes t depth e c walked in
+    omega (arith, few, more, own, sum_by_more (λ (x : Edge). walked_at nodes t depth x) es place e low)
+
+-- all in all
+pub all_visits : (nodes : Nodes) (t : Table) (depth id : ℕ) (n : Node) (es : List Edge) (place before now : ℕ) → nodes id ≡ Some n → es ≡ edges_of n → t.level id < depth → ((d : ℕ) → t.level id ≤ d → now ≤ before + suc (walked_before nodes t d es place)) → now ≤ before + walk_size nodes t depth id
+all_visits nodes t zero id n es place before now there same low few = absurd (omega arith)
+all_visits nodes t (suc depth) id n es place before now there same low few =
+    let h = λ (e : Edge). walked_at nodes t depth e in
+    let whole : sum_by h es ≡ sum_by h (edges_of n) = ap (λ (l : List Edge). sum_by h l) same in
+    omega (arith, few depth (omega arith), size_is nodes t depth id n there, whole, sum_by-take-le h es place)
+
+-- ---- in other spelling
+
+pub child_depth : (t u : Table) (id here c depth : ℕ) → u ≡ t → here ≡ id → t.level c < t.level here → t.level id ≤ depth → u.level c < depth
+child_depth t u id here c depth same same_id lower low =
+    let a : u.level c ≡ t.level c = ap (λ (v : Table). v.level c) same in
+    let b : t.level here ≡ t.level id = ap t.level same_id in
+    omega arith
+
+pub same_size : (nodes same_nodes : Nodes) (t same_t : Table) (depth c now then : ℕ) → same_nodes ≡ nodes → same_t ≡ t → then ≤ now + walk_size same_nodes same_t depth c → then ≤ now + walk_size nodes t depth c
+same_size nodes same_nodes t same_t depth c now then e_nodes e_t few =
+    let is : walk_size same_nodes same_t depth c ≡ walk_size nodes t depth c = ap (λ (n : Nodes). walk_size n same_t depth c) e_nodes ∙ ap (λ (u : Table). walk_size nodes u depth c) e_t in
+    omega (arith, few, is)

@@ -1,0 +1,68 @@
+-- What a change leaves.
+use Rattle.std.specs.Prelude.{◌≡◌, ℕ, ◌+◌, ◌≤◌, List, [], length, drop, Option, None, Some, ◌⊎◌, IsTrue}
+use Rattle.std.specs.List.{sum_by}
+use Rattle.bd_node.specs.declared.node.Node.{Node}
+use Rattle.bd_node.specs.declared.node.Step.{Step}
+use Rattle.bd_node.specs.Meaning.{Nodes}
+use Rattle.bd_node.specs.Private.{IsPrivate}
+use Rattle.bd_node.specs.Tables.{Table, IsKept, IsSound, root_at, sum_below}
+use Rattle.bd_node.specs.Parts.{edges_of, buffer_of}
+use Rattle.bd_path.specs.declared.fetching.Fetched.{Fetched}
+use Rattle.bd_path.specs.Flushed.{LeadsTo, IsUntouched}
+use Rattle.bd_path.specs.Paths.{change_step}
+use Rattle.bd_cover.specs.Covering.{IsDecided}
+
+-- what a change leaves: the tree has what it had, in sound nodes, and at most four are made; only
+-- nodes on the one way from the root to a private node are changed or let go with what they alone
+-- named, and each other one that stays is untouched; the root is at most one level higher
+pub record IsReclaimed (nodes : Nodes) (t : Table) (new : Nodes) (u : Table) : Type 0 where
+  pub same : (k : List ℕ) → root_at new u k ≡ root_at nodes t k
+  pub sound : IsSound new u
+  pub later : t.next ≤ u.next
+  pub few : u.next ≤ t.next + 4
+  pub last : ℕ
+  pub private : IsPrivate nodes t last
+  pub others : (id : ℕ) → IsKept t id → IsKept u id → ¬ LeadsTo nodes last id
+      → IsUntouched nodes new id
+  pub touched : (id : ℕ) → IsTrue (u.touched id) → IsTrue (t.touched id) ⊎ LeadsTo nodes last id
+  pub high : u.level u.root ≤ t.level t.root + 1
+
+-- the node has what the message at a place makes of its edge at a place and of the neighbours that
+-- become one with it, and all others that stay are what they were
+pub record IsDecidedAt (nodes : Nodes) (node : Fetched) (place at : ℕ) (new : Nodes) (u : Table)
+    : Type 0 where
+  pub made : Node
+  pub decided : IsDecided node.node.value place at made
+  pub there : new node.id ≡ Some made
+  pub rest : (id : ℕ) → IsKept u id → ¬ (id ≡ node.id) → new id ≡ nodes id
+
+-- the child is the root, and all nodes that stay are what they were
+pub record IsShrunk (nodes : Nodes) (child : ℕ) (new : Nodes) (u : Table) : Type 0 where
+  pub root : u.root ≡ child
+  pub rest : (id : ℕ) → IsKept u id → new id ≡ nodes id
+
+-- the step that changes a node to what the message at a place makes of its edge at a place and of
+-- the neighbours that become one with it
+pub record IsDecideStep (root : ℕ) (node : Fetched) (place at : ℕ) (step : Step) : Type 0 where
+  pub made : Node
+  pub decided : IsDecided node.node.value place at made
+  pub is : step ≡ change_step root node.id made
+
+-- the step that makes another node the root, and no other change
+abbrev pub root_only : ℕ → Step
+root_only root = record { made = []; changes = []; root = root }
+
+-- ---- how much is left to change
+
+-- how many messages the edges of a node haven't seen, in sum
+abbrev pub unseen_count : Node → ℕ
+unseen_count n = sum_by (λ e. length (drop e.seen (buffer_of n))) (edges_of n)
+
+-- the same of a node, if there is one
+abbrev pub unseen_in : Option Node → ℕ
+unseen_in None = 0
+unseen_in (Some n) = unseen_count n
+
+-- how many messages the edges of all nodes haven't seen, in sum, and the root's level
+abbrev pub left_over : Nodes → Table → ℕ
+left_over nodes t = sum_below t.next (λ id. unseen_in (nodes id)) + t.level t.root

@@ -1,0 +1,181 @@
+-- The walk that looks for a change, and the first one that it finds.
+use Rattle.std.specs.Prelude.{◌≡◌, ℕ, zero, suc, Bool, IsTrue, ◌<◌, ◌≤◌, nat_lt, ◌==◌, ◌&&◌, if◌then◌else◌, List, [], ◌∷◌, reverse, Option, None, Some, slice_get, ⊤}
+use Rattle.std.specs.List.{sum_by, AllByRecursion}
+use Rattle.bd_node.specs.declared.node.Edge.{Edge}
+use Rattle.bd_node.specs.declared.node.Node.{Node}
+use Rattle.bd_node.specs.Meaning.{Nodes}
+use Rattle.bd_node.specs.Tables.{Table, IsLower}
+use Rattle.bd_node.specs.Parts.{edges_of, buffer_of, IsEdgeAt}
+use Rattle.bd_path.specs.declared.fetching.Fetched.{Fetched}
+use Rattle.bd_path.specs.Fetching.{IsFetched, IsContents, IsEdgeTo, IsOwn, AreOwn}
+use Rattle.bd_path.specs.Raising.{IsWayUp}
+use Rattle.bd_cover.specs.declared.covering.Cover.TheVariants.{Gone, Elsewhere}
+use Rattle.bd_cover.specs.declared.walking.Reclaim.{Reclaim}
+use Rattle.bd_cover.specs.declared.walking.Reclaim.TheVariants.{Shrink, Drop, Redirect, Push}
+use Rattle.bd_cover.specs.declared.walking.Look.{Look}
+use Rattle.bd_cover.specs.declared.walking.Look.TheVariants.{Change, Clean}
+use Rattle.bd_cover.specs.Covering.{IsCovered, HasNoCovered, IsFirstCovered, HasCut, HasNoCut, IsFirstCut}
+
+-- of a push what is said of the nodes above its own, of that one and of the place, and of any other
+-- change what is said of all of them
+abbrev pub IfPush : (List Fetched → Fetched → ℕ → Type 0) → Type 0 → Reclaim → Type 0
+IfPush push other (Shrink child) = other
+IfPush push other (Drop node place at) = other
+IfPush push other (Redirect node place at) = other
+IfPush push other (Push above node place) = push above node place
+
+-- ---- which nodes are looked at
+
+-- the walk goes from an edge to its child: an inner node that nothing else names
+pub record IsWalked (t : Table) (e : Edge) (child : ℕ) : Type 0 where
+  pub child_is : e.child ≡ Some child
+  pub once : t.count child ≡ 1
+  pub inner : 1 ≤ t.level child
+
+-- the walk leads from a node to this one
+pub data IsUnder (nodes : Nodes) (t : Table) (last : ℕ) : ℕ → Type 0 where
+  itself : IsUnder nodes t last last
+  through : (id place c : ℕ) (n : Node) (e : Edge) → nodes id ≡ Some n → IsEdgeAt n place e
+      → IsWalked t e c → IsUnder nodes t last c → IsUnder nodes t last id
+
+-- what a function has at an edge's child, if the walk goes on there, and else 0
+abbrev pub at_walked : Table → (ℕ → ℕ) → Option ℕ → ℕ
+at_walked t f None = 0
+at_walked t f (Some child) = if t.count child == 1 && nat_lt 0 (t.level child) then f child else 0
+
+-- the edges of a node, if there is one
+abbrev pub edges_in : Option Node → List Edge
+edges_in None = []
+edges_in (Some n) = edges_of n
+
+-- how many nodes the walk from one comes to, where it goes at most so deep
+unfoldable pub walk_size : Nodes → Table → ℕ → ℕ → ℕ
+walk_size nodes t zero id = 0
+walk_size nodes t (suc depth) id =
+    suc (sum_by (λ e. at_walked t (walk_size nodes t depth) e.child) (edges_in (nodes id)))
+
+-- ---- what is to be changed at a node
+
+-- a node adds nothing to a child: it has one edge, which leaves out nothing of a key and puts
+-- nothing in front, and nothing waits in it
+pub record IsThinWay (n : Node) (child : ℕ) : Type 0 where
+  pub edge : Edge
+  pub only : edges_of n ≡ edge ∷ []
+  pub empty : buffer_of n ≡ []
+  pub lift : edge.lift ≡ 0
+  pub source : edge.source ≡ []
+  pub child_is : edge.child ≡ Some child
+
+-- the same, where the child is an inner node
+abbrev pub IsThin : Table → Node → ℕ → Type 0
+IsThin t n child = IsThinWay n child × (1 ≤ t.level child)
+
+-- the node isn't a root that adds nothing
+abbrev pub IsNoThinRoot : Table → ℕ → Node → Type 0
+IsNoThinRoot t id n = id ≡ t.root → (child : ℕ) → ¬ IsThin t n child
+
+-- nothing is to be changed at the node, where pushes may be asked for
+pub record IsClean (pushes : Bool) (t : Table) (id : ℕ) (n : Node) : Type 0 where
+  pub thin : IsNoThinRoot t id n
+  pub cuts : HasNoCovered Gone n
+  pub gotos : HasNoCovered Elsewhere n
+  pub pushed : IsTrue pushes → HasNoCut n
+
+-- the first change to make at a fetched node: a root that adds nothing goes, then come edges that a
+-- Cut covers, then those that a Goto covers, then those for which another Cut is pending
+abbrev pub IsFirstAt : Bool → Table → Fetched → Reclaim → Type 0
+IsFirstAt pushes t f (Shrink child) = (f.id ≡ t.root) × IsThin t f.node.value child
+IsFirstAt pushes t f (Drop node place at) =
+    (node ≡ f) × IsNoThinRoot t f.id f.node.value × IsFirstCovered Gone f.node.value place at
+IsFirstAt pushes t f (Redirect node place at) =
+    (node ≡ f) × IsNoThinRoot t f.id f.node.value × HasNoCovered Gone f.node.value
+    × IsFirstCovered Elsewhere f.node.value place at
+IsFirstAt pushes t f (Push above node place) =
+    (node ≡ f) × IsNoThinRoot t f.id f.node.value × HasNoCovered Gone f.node.value
+    × HasNoCovered Elsewhere f.node.value × IsTrue pushes × IsFirstCut f.node.value place
+
+-- ---- the first change
+
+-- nothing is to be changed at any node to which the walk leads from this one
+abbrev pub HasNone : Bool → Nodes → Table → ℕ → Type 0
+HasNone pushes nodes t from = (id : ℕ) (n : Node) → IsUnder nodes t id from → nodes id ≡ Some n
+    → IsClean pushes t id n
+
+-- nor below the edges before a place
+abbrev pub HasNoneBefore : Bool → Nodes → Table → List Edge → ℕ → Type 0
+HasNoneBefore pushes nodes t edges place = (i c : ℕ) (e : Edge) → i < place
+    → slice_get edges i ≡ Some e → IsWalked t e c → HasNone pushes nodes t c
+
+-- the walk from a node finds this change first: at the node itself, or below the first of its edges
+-- below which there is one
+pub data IsFirst (pushes : Bool) (nodes : Nodes) (t : Table) (step : Reclaim) : ℕ → Type 0 where
+  here : (f : Fetched) → nodes f.id ≡ Some f.node.value → IsFirstAt pushes t f step
+      → IsFirst pushes nodes t step f.id
+  below : (id place c : ℕ) (n : Node) (e : Edge) → nodes id ≡ Some n → IsClean pushes t id n
+      → HasNoneBefore pushes nodes t (edges_of n) place → IsEdgeAt n place e → IsWalked t e c
+      → IsFirst pushes nodes t step c → IsFirst pushes nodes t step id
+
+-- ---- changes that may be made
+
+-- the change may be made, as far as the table tells
+abbrev pub IsToDo : Table → Reclaim → Type 0
+IsToDo t (Shrink child) = IsLower t (t.level t.root) child × (1 ≤ t.level child)
+IsToDo t (Drop node place at) = IsFetched t node × IsCovered Gone node.node.value place at
+IsToDo t (Redirect node place at) = IsFetched t node × IsCovered Elsewhere node.node.value place at
+IsToDo t (Push above node place) =
+    IsFetched t node × HasCut node.node.value place × IsWayUp t node.id (reverse above)
+
+-- where it is made, in known nodes: at the root, or at a private node
+abbrev pub IsMadeAt : Nodes → Table → Reclaim → Type 0
+IsMadeAt nodes t (Shrink child) = (n : Node) × (nodes t.root ≡ Some n) × IsThin t n child
+IsMadeAt nodes t (Drop node place at) = IsOwn nodes t node
+IsMadeAt nodes t (Redirect node place at) = IsOwn nodes t node
+IsMadeAt nodes t (Push above node place) = IsOwn nodes t node
+
+-- it may be made there, where those above a push are private too
+abbrev pub IsToDoAt : Nodes → Table → Reclaim → Type 0
+IsToDoAt nodes t step =
+    IsMadeAt nodes t step
+    × IfPush (λ above node place. AreOwn nodes t (reverse above)) ⊤ step
+
+-- ---- the way that the walk has come
+
+-- fetched nodes from the one above a node up to another: each has an edge to the one below it, which
+-- nothing else names
+pub data IsWayBetween (t : Table) (top : ℕ) : ℕ → List Fetched → Type 0 where
+  at_top : IsWayBetween t top top []
+  one_up : (c place : ℕ) (f : Fetched) (e : Edge) (fs : List Fetched) → IsFetched t f
+      → IsEdgeTo f.node.value place c e → t.count c ≡ 1 → IsWayBetween t top f.id fs
+      → IsWayBetween t top c (f ∷ fs)
+
+-- the change, where the walk from a node has found it: a push has the nodes above its own up to
+-- that one
+abbrev pub IsFoundFrom : Table → ℕ → Reclaim → Type 0
+IsFoundFrom t top step =
+    IfPush (λ above node place. IsFetched t node × HasCut node.node.value place
+    × IsWayBetween t top node.id (reverse above)) (IsToDo t step) step
+
+-- in known nodes, those above a push are what was fetched
+abbrev pub IsFoundIn : Nodes → Reclaim → Type 0
+IsFoundIn nodes step =
+    IfPush (λ above node place. AllByRecursion (IsContents nodes) (reverse above)) ⊤ step
+
+-- the change that was found below a node, where a push gets that node above it
+abbrev pub IsBelow : Fetched → Reclaim → Reclaim → Type 0
+IsBelow f step found =
+    IfPush (λ above node place. found ≡ Push (f ∷ above) node place) (found ≡ step) step
+
+-- ---- what is seen at a node
+
+-- a push is found with no nodes above its own
+abbrev pub HasNoneAbove : Reclaim → Type 0
+HasNoneAbove step = IfPush (λ above node place. above ≡ []) ⊤ step
+
+-- a fetched node is to be changed so, or nothing is to be changed at it
+abbrev pub IsLook : Bool → Table → Fetched → Look → Type 0
+IsLook pushes t f (Change step) = IsFirstAt pushes t f step × HasNoneAbove step
+IsLook pushes t f (Clean node) = (node ≡ f) × IsClean pushes t f.id f.node.value
+
+-- the same of its edges alone
+abbrev pub IsEdgeLook : Bool → Fetched → Look → Type 0
+IsEdgeLook pushes f look = (t : Table) → IsNoThinRoot t f.id f.node.value → IsLook pushes t f look

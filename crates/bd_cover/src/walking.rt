@@ -1,0 +1,232 @@
+//! The walk that looks for the first change to make.
+
+ghost use Rattle.std.specs.Prelude.{◌≡◌, ℕ, ◌<◌, ◌≤◌, ◌+◌, IfOk, IfSome, MatchOption, Some};
+ghost use Rattle.bd_message.specs.KeyMaps.{HasMapCause, NeverWorn};
+ghost use Rattle.bd_node.specs.Frames.{OfSound, OnlyReads};
+ghost use Rattle.bd_node.specs.declared.node.Node.{Node};
+ghost use Rattle.bd_node.specs.Shape.{IsShape};
+ghost use Rattle.bd_node.specs.Tables.{IsKept};
+ghost use Rattle.bd_path.specs.Fetching.{IsFetched};
+ghost use Rattle.bd_cover.specs.Walking.{IsWalked, IsThinWay, IsThin, IsLook, IsEdgeLook, IsFirst, HasNone, IsToDo, IsToDoAt, IsFoundFrom, IsFoundIn, IsBelow, walk_size};
+
+use crate::Cover;
+use crate::covering::{first_covered, first_cut};
+use bd_message::MapFault;
+use bd_node::{Edge, Items, Node, NodeStore};
+use bd_path::{Fetched, Way, fetch};
+use std::alloc::{AllocError, Global};
+
+/// A change to make, and where.
+#[derive(Debug, Drop)]
+pub enum Reclaim {
+    /// The root adds nothing to its only child, an inner node, which is the root from then on.
+    Shrink {
+        child: u64,
+    },
+    /// The Cut at a place of the node's buffer covers all keys of the edge at the place: the edge
+    /// has no child from then on.
+    Drop {
+        node: Fetched,
+        place: usize,
+        at: usize,
+    },
+    /// The Goto at a place of the node's buffer covers all keys of the edge at the place: the edge
+    /// asks the Goto's node from then on. The neighbours after it that this Goto covers, and no
+    /// newer one, become one edge with it.
+    Redirect {
+        node: Fetched,
+        place: usize,
+        at: usize,
+    },
+    /// A Cut is pending for the edge at the place of the node, below those above it: a step of a
+    /// flush begins there.
+    Push {
+        above: Way,
+        node: Fetched,
+        place: usize,
+    },
+}
+
+/// The first change that is still to be made, and none exactly where there is none. The walk looks
+/// at the root, and at each inner node that an edge of such a node asks and that nothing else
+/// names: at each node first, and then below its edges, in their order. Pushes are passed over
+/// unless `pushes` asks for them. Nothing is changed. At most those nodes are visited, each once.
+pub fn reclaim_next<S: NodeStore>(
+    alloc: Global,
+    store: &mut S,
+    pushes: bool,
+) -> Result<Option<Reclaim>, MapFault>
+    ensures first { OfSound S.NodeStore store.old
+        (IfOk result (λ found. MatchOption found
+        (HasNone pushes (S.nodes store.old) (S.table store.old) (S.table store.old).root)
+        (λ step. IsFirst pushes (S.nodes store.old) (S.table store.old) step
+        (S.table store.old).root))) }
+    ensures to_do { IfOk result (λ found. IfSome found (IsToDo (S.table store.old))) }
+    ensures at { OfSound S.NodeStore store.old
+        (IfOk result (λ found. IfSome found
+        (IsToDoAt (S.nodes store.old) (S.table store.old)))) }
+    ensures left { OnlyReads S.NodeStore store.old store.new }
+    ensures cause { HasMapCause (S.fault_count store.old) (S.fault_count store.new)
+        (S.bad store.new) NeverWorn result }
+    ensures few_visits { S.is_known store.old → S.visit_count store.new
+        ≤ S.visit_count store.old + walk_size (S.nodes store.old) (S.table store.old)
+        ((S.table store.old).level (S.table store.old).root + 1) (S.table store.old).root }
+{
+    let root = store.root();
+    first_from(alloc, store, root, pushes)
+}
+
+// The first change to make at a node or below it. A push has the nodes above its own, up to this
+// one.
+fn first_from<S: NodeStore>(
+    alloc: Global,
+    store: &mut S,
+    id: u64,
+    pushes: bool,
+) -> Result<Option<Reclaim>, MapFault>
+    requires { IsKept (S.table store.old) id }
+    ensures first { OfSound S.NodeStore store.old
+        (IfOk result (λ found. MatchOption found
+        (HasNone pushes (S.nodes store.old) (S.table store.old) id)
+        (λ step. IsFirst pushes (S.nodes store.old) (S.table store.old) step id))) }
+    ensures found { IfOk result (λ found. IfSome found (IsFoundFrom (S.table store.old) id)) }
+    ensures there { S.is_known store.old
+        → IfOk result (λ found. IfSome found (IsFoundIn (S.nodes store.old))) }
+    ensures left { OnlyReads S.NodeStore store.old store.new }
+    ensures cause { HasMapCause (S.fault_count store.old) (S.fault_count store.new)
+        (S.bad store.new) NeverWorn result }
+    ensures few_visits { S.is_known store.old → (depth : ℕ) → (S.table store.old).level id < depth
+        → S.visit_count store.new ≤ S.visit_count store.old
+        + walk_size (S.nodes store.old) (S.table store.old) depth id }
+{
+    let here = fetch(store, id)?;
+    let here = match look_at(alloc, store, here, pushes) {
+        Look::Change(step) => return Ok(Some(step)),
+        Look::Clean(here) => here,
+    };
+    let edges = here.node.edges();
+    for edge in edges {
+        let Some(child) = walked(store, edge) else {
+            continue;
+        };
+        if let Some(step) = first_from(alloc, store, child, pushes)? {
+            return Ok(Some(found_below(here, step)?));
+        }
+    }
+    Ok(None)
+}
+
+// A change that was found below a node. A push has that node above it too.
+fn found_below(here: Fetched, step: Reclaim) -> Result<Reclaim, AllocError>
+    ensures { IfOk result (IsBelow here step) }
+{
+    match step {
+        Reclaim::Push { above, node, place } => {
+            let mut above = above.into_vec();
+            above.insert(0, here)?;
+            Ok(Reclaim::Push {
+                above: Items::from_vec(above),
+                node,
+                place,
+            })
+        }
+        other => Ok(other),
+    }
+}
+
+// What is seen at a node.
+#[derive(Drop)]
+enum Look {
+    // This is to be changed.
+    Change(Reclaim),
+    // Nothing is to be changed at this node.
+    Clean(Fetched),
+}
+
+// What is seen at a node.
+fn look_at<S: NodeStore>(alloc: Global, store: &S, here: Fetched, pushes: bool) -> Look
+    requires { IsFetched (S.table store.now) here }
+    ensures { IsLook pushes (S.table store.now) here result }
+{
+    if here.id == store.root() {
+        if let Some(child) = thin_child(store, &here) {
+            return Look::Change(Reclaim::Shrink { child });
+        }
+    }
+    look_at_edges(alloc, here, pushes)
+}
+
+// The child of a node that adds nothing to it, an inner node.
+fn thin_child<S: NodeStore>(store: &S, here: &Fetched) -> Option<u64>
+    requires { IsFetched (S.table store.now) here.now }
+    ensures { MatchOption result
+        ((child : ℕ) → ¬ IsThin (S.table store.now) here.now.node.value child)
+        (IsThin (S.table store.now) here.now.node.value) }
+{
+    let child = only_child(&here.node)?;
+    if store.level(child) >= 1 {
+        Some(child)
+    } else {
+        None
+    }
+}
+
+// The child that a node's only edge asks with nothing left out or put in front, where nothing waits
+// in the node.
+fn only_child(node: &Node) -> Option<u64>
+    ensures { MatchOption result ((child : ℕ) → ¬ IsThinWay node.now child) (IsThinWay node.now) }
+{
+    let [edge] = node.edges() else {
+        return None;
+    };
+    if !node.buffer().is_empty() || edge.lift != 0 || !edge.source.is_empty() {
+        return None;
+    }
+    edge.child
+}
+
+// What is seen at a node's edges.
+fn look_at_edges(alloc: Global, here: Fetched, pushes: bool) -> Look
+    requires { IsShape here.node.value }
+    ensures { IsEdgeLook pushes here result }
+{
+    if let Some((place, at)) = first_covered(Cover::Gone, &here.node) {
+        return Look::Change(Reclaim::Drop {
+            node: here,
+            place,
+            at,
+        });
+    }
+    if let Some((place, at)) = first_covered(Cover::Elsewhere, &here.node) {
+        return Look::Change(Reclaim::Redirect {
+            node: here,
+            place,
+            at,
+        });
+    }
+    if !pushes {
+        return Look::Clean(here);
+    }
+    match first_cut(&here.node) {
+        Some(place) => Look::Change(Reclaim::Push {
+            above: Items::new(alloc),
+            node: here,
+            place,
+        }),
+        None => Look::Clean(here),
+    }
+}
+
+// The child of an edge, if the walk goes on there.
+fn walked<S: NodeStore>(store: &S, edge: &Edge) -> Option<u64>
+    requires { (child : ℕ) → edge.now.child ≡ Some child → IsKept (S.table store.now) child }
+    ensures { MatchOption result ((child : ℕ) → ¬ IsWalked (S.table store.now) edge.now child)
+        (IsWalked (S.table store.now) edge.now) }
+{
+    let child = edge.child?;
+    if store.count(child) == 1 && store.level(child) >= 1 {
+        Some(child)
+    } else {
+        None
+    }
+}

@@ -1,6 +1,0 @@
-use Rattle.std.specs.Option.{option_copied}
-use Rattle.bd_reclaim.proofs.Cuts.{NoCutBelow}
-use Rattle.bd_reclaim.proofs.covering.has_cut.Given as goal
-
-abbrev pub invariant-loop-at : goal.invariant-loop-at
-invariant-loop-at l = NoCutBelow l.buffer l.edge (option_copied l.hi) l.at

@@ -1,5 +1,0 @@
-use Rattle.std.proofs.Common.{length}
-use Rattle.bd_reclaim.proofs.deciding.+run_length.Given as goal
-
-abbrev pub decreases-run_length : goal.decreases-run_length
-decreases-run_length l = length l.edges.now

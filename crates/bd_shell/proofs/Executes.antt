@@ -1,0 +1,93 @@
+-- Executions put together.
+use Rattle.std.proofs.Common.{◌≡◌, ℕ, ◌<◌, Bool, true, false, List, [], ◌∷◌, ◌++◌, length, refl, sym, ap, subst, ◌∙◌, arith}
+use Rattle.std.specs.Prelude.{◌||◌, OnOk, OnErr, IfOk}
+use Rattle.std.specs.List.{list_any}
+use Rattle.std.specs.declared.result.Result.{Result}
+use Rattle.std.specs.declared.result.Result.TheVariants.{Ok, Err}
+use Rattle.std.specs.declared.option.Option.{Option}
+use Rattle.std.specs.declared.option.Option.TheVariants.{None, Some}
+use Rattle.std.specs.Io.KnownBytes.{append_known}
+use Rattle.std.proofs.lemmas.List.{append-nil}
+use Rattle.bd_io.proofs.Written.{append_known-twice}
+use Rattle.bd_node.proofs.Lookup.{each_both}
+use Rattle.bd_script.specs.Lines.{LineMeaning, line_of, is_stop}
+use Rattle.bd_script.specs.Replies.{line_reply_line}
+use Rattle.bd_shell.specs.Transcript.{State, Exchange, IsAnswered, text, executed}
+use Rattle.bd_shell.specs.Session.{Executes}
+use Rattle.bd_shell.specs.Shell.{ExecutesOne, last_lines}
+use Rattle.bd_shell.proofs.Transcripts.{text-append, executed-append, transcript_none, transcript_one, transcript_more}
+
+pub append_known-nil : (w : Option (List ℕ)) → append_known w [] ≡ w
+append_known-nil None = refl
+append_known-nil (Some xs) = ap (λ l. Some l) (append-nil xs)
+
+-- what was written of some replies, and then of more
+pub text-twice : (xs ys : List Exchange) (a b c : Option (List ℕ)) → b ≡ append_known a (text xs) → c ≡ append_known b (text ys)
+    → c ≡ append_known a (text (xs ++ ys))
+text-twice xs ys a b c first second =
+    second ∙ ap (λ w. append_known w (text ys)) first ∙ append_known-twice a (text xs) (text ys)
+    ∙ ap (append_known a) (sym (text-append xs ys))
+
+-- no line
+pub executes_none : (first : State → Type 0) (w : Option (List ℕ)) → Executes first first [] w w
+executes_none first w = record {
+  exchanges = [];
+  answered = tt;
+  lines_are = refl;
+  written = sym (append_known-nil w);
+  runs = λ s h. transcript_none s first h;
+}
+
+-- one line
+pub executes_one : (first last : State → Type 0) (l : LineMeaning) (a b : Option (List ℕ)) → ExecutesOne first last l a b
+    → Executes first last (l ∷ []) a b
+executes_one first last l a b x = record {
+  exchanges = record { line = l; said = x.said } ∷ [];
+  answered = ((x.answer, x.one_line), tt);
+  lines_are = refl;
+  written = x.written ∙ ap (append_known a) (sym (append-nil (line_reply_line x.said)));
+  runs = λ s h. transcript_one s l x.said last (x.replies s h);
+}
+
+-- some lines, and then more
+pub executes_more : (first mid last : State → Type 0) (ls ms : List LineMeaning) (a b c : Option (List ℕ)) → Executes first mid ls a b
+    → Executes mid last ms b c → Executes first last (ls ++ ms) a c
+executes_more first mid last ls ms a b c x y = record {
+  exchanges = x.exchanges ++ y.exchanges;
+  answered = each_both IsAnswered x.exchanges y.exchanges x.answered y.answered;
+  lines_are = executed-append x.exchanges y.exchanges ∙ ap (λ l. l ++ executed y.exchanges) x.lines_are
+      ∙ ap (λ l. ls ++ l) y.lines_are;
+  written = text-twice x.exchanges y.exchanges a b c x.written y.written;
+  runs = λ s h. transcript_more s x.exchanges y.exchanges mid last (x.runs s h) y.runs;
+}
+
+-- the same lines, named otherwise
+pub executes_as : (first last : State → Type 0) (ls ms : List LineMeaning) (a b : Option (List ℕ)) → ls ≡ ms
+    → Executes first last ls a b → Executes first last ms a b
+executes_as first last ls ms a b same x = subst (λ l. Executes first last l a b) same x
+
+-- what is held at the end is a line where it isn't empty
+pub last_some : (line same : List ℕ) → same ≡ line → 0 < length line → last_lines line ≡ line_of same ∷ []
+last_some [] same is some = absurd (omega arith)
+last_some (b ∷ line) same is some = ap (λ l. line_of l ∷ []) (sym is)
+
+-- one line alone
+pub one_stop : (l : LineMeaning) → is_stop l ≡ list_any is_stop (l ∷ [])
+one_stop l = by (is_stop l)
+  where
+    by : (b : Bool) → b ≡ (b || false)
+    by true = refl
+    by false = refl
+
+-- what follows from what is said of a result that is Ok
+pub on_ok_as : {T E : Type 0} (r : Result T E) (P Q : Type 0) → (P → Q) → OnOk r P → OnOk r Q
+on_ok_as (Ok x) P Q f h = f h
+on_ok_as (Err e) P Q f h = tt
+
+pub if_ok_as : {T E : Type 0} (r : Result T E) (P Q : T → Type 0) → ((x : T) → P x → Q x) → IfOk r P → IfOk r Q
+if_ok_as (Ok x) P Q f h = f x h
+if_ok_as (Err e) P Q f h = tt
+
+pub on_err_as : {T E : Type 0} (r : Result T E) (P Q : Type 0) → (P → Q) → OnErr r P → OnErr r Q
+on_err_as (Ok x) P Q f h = tt
+on_err_as (Err e) P Q f h = f h

@@ -1,0 +1,48 @@
+-- What faults leave of a state.
+use Rattle.std.proofs.Common.{refl, arith, inl}
+use Rattle.std.specs.Prelude.{IsSome, IsNone}
+use Rattle.std.specs.declared.option.Option.{Option}
+use Rattle.std.specs.declared.result.Result.TheVariants.{Ok, Err}
+use Rattle.bd_message.specs.declared.fault.Counter.{Counter}
+use Rattle.bd_script.specs.Lines.{LineMeaning}
+use Rattle.bd_script.specs.declared.line.Line.TheVariants.{Run, Walk, Df, Sync, Checkpoint, Reclaim, Stop}
+use Rattle.bd_view.specs.Views.{View}
+use Rattle.bd_view.specs.Moves.AreSteps.{none}
+use Rattle.bd_shell.specs.Transcript.{State}
+use Rattle.bd_shell.specs.Session.{IsLeftBy, LeavesBy, Leaves, WornBy}
+use Rattle.bd_shell.specs.Shell.{Wore}
+
+-- any line may leave the view
+left_none : (line : LineMeaning) (s : State) → IsLeftBy line s s.view
+left_none (Ok (Run c)) s = record { stepped = record { made = 0; steps = none s.view; few = omega arith }; refused = λ _. refl }
+left_none (Ok Walk) s = refl
+left_none (Ok Df) s = refl
+left_none (Ok Sync) s = refl
+left_none (Ok Checkpoint) s = refl
+left_none (Ok Reclaim) s = inl refl
+left_none (Ok Stop) s = refl
+left_none (Err refusal) s = refl
+
+-- nothing was done
+pub leaves_all : (line : LineMeaning) (s : State) (at : State → Type 0) → at s → LeavesBy line s at
+leaves_all line s at h = record { left = s.view; by = left_none line s; reached = h }
+
+pub leaves_nothing : (s : State) (at : State → Type 0) → at s → Leaves s at
+leaves_nothing s at h = (Ok Walk, leaves_all (Ok Walk) s at h)
+
+neither_none : {A : Type 0} (o : Option A) → IsNone o → IsSome o → ⊥
+neither_none o h k = cc
+
+-- what a line leaves where it wore a counter
+left_worn : (which : Counter) (s : State) (line : LineMeaning) (left : View) → WornBy which s line left → IsLeftBy line s left
+left_worn which s (Ok (Run c)) left h = record { stepped = h.wears.stepped; refused = λ some. absurd (neither_none _ h.accepted some) }
+left_worn which s (Ok Walk) left h = absurd h
+left_worn which s (Ok Df) left h = absurd h
+left_worn which s (Ok Sync) left h = absurd h
+left_worn which s (Ok Checkpoint) left h = h.left_is
+left_worn which s (Ok Reclaim) left h = h.begun
+left_worn which s (Ok Stop) left h = absurd h
+left_worn which s (Err refusal) left h = absurd h
+
+pub leaves_worn : (which : Counter) (s : State) (line : LineMeaning) (at : State → Type 0) → Wore which s line at → Leaves s at
+leaves_worn which s line at h = (line, record { left = h.left; by = left_worn which s line h.left h.worn; reached = h.reached })

@@ -1,0 +1,11 @@
+pub mod Transcripts
+pub mod Surviving
+pub mod Keeping
+pub mod Executes
+pub mod Feeding
+pub mod Held
+pub mod Lines
+pub mod Scripts
+pub mod Starts
+pub mod Left
+pub mod Moving

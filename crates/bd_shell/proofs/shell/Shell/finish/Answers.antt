@@ -1,0 +1,17 @@
+-- What is held at the end is the last line.
+use Rattle.std.proofs.Common.{sym, ap, ◌∙◌, arith}
+use Rattle.std.specs.List.{list_any}
+use Rattle.std.proofs.lemmas.Grind.{common_steps}
+use Rattle.bd_script.specs.Lines.{is_stop}
+use Rattle.bd_shell.proofs.Executes.{executes_as, executes_one, last_some, one_stop, on_ok_as, if_ok_as}
+use Rattle.bd_shell.proofs.shell.Shell.finish.Goals as goal
+
+pub returns-clause-ok : goal.returns-clause-ok
+returns-clause-ok g c =
+    on_ok_as c.run_line.result _ _ (λ ok first since.
+    executes_as _ _ _ _ _ _ (sym (last_some _ _ c.deref.ensures.value (grind (arith, common_steps)))) (executes_one _ _ _ _ _ (ok first since))) c.run_line.ensures.ok
+
+pub returns-clause-flow : goal.returns-clause-flow
+returns-clause-flow g c =
+    if_ok_as c.run_line.result _ _ (λ flow is.
+    is ∙ one_stop _ ∙ ap (list_any is_stop) (sym (last_some _ _ c.deref.ensures.value (grind (arith, common_steps))))) c.run_line.ensures.flow

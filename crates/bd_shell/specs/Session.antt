@@ -1,0 +1,269 @@
+-- What a session does with the lines of a script, and how it ends.
+use Rattle.std.specs.Prelude.{◌≡◌, ◌⊎◌, ℕ, ◌+◌, ◌^◌, ◌≤◌, Bool, true, false, List, [], ◌∷◌, ◌++◌, length, take, if◌then◌else◌, IfSome, IsNone, IsSome, ⊤}
+use Rattle.std.specs.List.{list_any, AllByRecursion}
+use Rattle.std.specs.Io.KnownBytes.{append_known, prepend_known}
+use Rattle.std.specs.declared.option.Option.{Option}
+use Rattle.std.specs.declared.option.Option.TheVariants.{None, Some}
+use Rattle.std.specs.declared.result.Result.{Result}
+use Rattle.std.specs.declared.result.Result.TheVariants.{Ok, Err}
+use Rattle.std.specs.declared.ops.ControlFlow.{ControlFlow}
+use Rattle.std.specs.declared.ops.ControlFlow.TheVariants.{Continue, Break}
+use Rattle.bd_limits.specs.Limits.{script_limit}
+use Rattle.bd_io.specs.Takes.{Takes}
+use Rattle.bd_io.specs.Written.{WrotePart}
+use Rattle.bd_command.specs.declared.Command.{Command}
+use Rattle.bd_message.specs.declared.fault.Counter.{Counter}
+use Rattle.bd_message.specs.declared.fault.Counter.TheVariants.{Epoch}
+use Rattle.bd_model.specs.Step.{refusal_of}
+use Rattle.bd_script.specs.Lines.{LineMeaning, is_stop}
+use Rattle.bd_script.specs.Replies.{line_reply_line}
+use Rattle.bd_script.specs.declared.line.Line.TheVariants.{Run, Walk, Df, Sync, Checkpoint, Reclaim, Stop}
+use Rattle.bd_view.specs.Views.{View, free_slots, save_slots}
+use Rattle.bd_view.specs.Moves.{HasStepped}
+use Rattle.bd_volume.specs.Wears.{Wears, HasBegunReclaiming, WearsReclaiming}
+use Rattle.bd_shell.specs.declared.fault.Fault.{Fault}
+use Rattle.bd_shell.specs.declared.fault.Fault.TheVariants.{Device, Damaged, Source, Memory, TooLong, Worn, Sink}
+use Rattle.bd_shell.specs.Taken.{Took}
+use Rattle.bd_shell.specs.Transcript.{Known, State, with_view, synced_state, Exchange, IsAnswered, HasTranscript, text, executed, meanings, lines_to_run, IsFront}
+
+-- how a session ends: by a fault, or with the script
+abbrev pub end_of : {T : Type 0} → Result T Fault → Option Fault
+end_of (Ok x) = None
+end_of (Err e) = Some e
+
+-- the run ends
+abbrev pub breaks : ControlFlow (Unit {0}) (Unit {0}) → Bool
+breaks (Continue c) = false
+breaks (Break b) = true
+
+-- ---- some lines
+
+-- these lines were executed and their replies written, whatever the volume stands for; from each
+-- state at which `first` holds they have a transcript, after which `last` holds
+pub record Executes (first last : State → Type 0) (lines : List LineMeaning) (old new : Known)
+    : Type 0 where
+  pub exchanges : List Exchange
+  pub answered : AllByRecursion IsAnswered exchanges
+  pub lines_are : executed exchanges ≡ lines
+  pub written : new ≡ append_known old (text exchanges)
+  pub runs : (s : State) → first s → HasTranscript s exchanges last
+
+-- of these lines some were executed, from the first on, and a next one was there
+pub record HasNext (next : LineMeaning) (done lines : List LineMeaning) : Type 0 where
+  pub rest : List LineMeaning
+  pub lines_are : lines ≡ done ++ next ∷ rest
+
+-- ---- what a fault of a line leaves
+
+-- a command that the tree refuses leaves the view, and another one flush steps and checkpoints,
+-- at most 65,536 steps
+pub record IsLeftByCommand (c : Command) (s : State) (left : View) : Type 0 where
+  pub stepped : HasStepped c s.view left
+  pub refused : IsSome (refusal_of s.tree c) → left ≡ s.view
+
+-- what a fault of a line leaves of the view
+abbrev pub IsLeftBy : LineMeaning → State → View → Type 0
+IsLeftBy (Ok (Run c)) s left = IsLeftByCommand c s left
+IsLeftBy (Ok Walk) s left = left ≡ s.view
+IsLeftBy (Ok Df) s left = left ≡ s.view
+IsLeftBy (Ok Sync) s left = left ≡ s.view
+IsLeftBy (Ok Checkpoint) s left = left ≡ s.view
+IsLeftBy (Ok Reclaim) s left = HasBegunReclaiming s.view left
+IsLeftBy (Ok Stop) s left = left ≡ s.view
+IsLeftBy (Err refusal) s left = left ≡ s.view
+
+-- a fault of a line leaves tree and count, and this of the view; `at` holds of the state then
+pub record LeavesBy (line : LineMeaning) (s : State) (at : State → Type 0) : Type 0 where
+  pub left : View
+  pub by : IsLeftBy line s left
+  pub reached : at (with_view s left)
+
+-- so does a fault of some line
+abbrev pub Leaves : State → (State → Type 0) → Type 0
+Leaves s at = (line : LineMeaning) × LeavesBy line s at
+
+-- ---- worn counters
+
+-- the tree accepts a writing command; steps of it lead from the state's view to the one that is
+-- left, and a counter has no room for what is next
+pub record WornByCommand (which : Counter) (s : State) (c : Command) (left : View) : Type 0 where
+  pub accepted : IsNone (refusal_of s.tree c)
+  pub wears : Wears which s.count c s.view left
+
+-- slots are free for a checkpoint, and the epoch has no room for it
+pub record WornByCheckpoint (which : Counter) (s : State) (left : View) : Type 0 where
+  pub counter_is : which ≡ Epoch
+  pub room : save_slots s.view ≤ free_slots s.view
+  pub worn : 2 ^ 64 ≤ s.view.epoch + 1
+  pub left_is : left ≡ s.view
+
+-- the line leads from the state's view to the one that is left, and a counter has no room for what
+-- is next
+abbrev pub WornBy : Counter → State → LineMeaning → View → Type 0
+WornBy which s (Ok (Run c)) left = WornByCommand which s c left
+WornBy which s (Ok Walk) left = ⊥
+WornBy which s (Ok Df) left = ⊥
+WornBy which s (Ok Sync) left = ⊥
+WornBy which s (Ok Checkpoint) left = WornByCheckpoint which s left
+WornBy which s (Ok Reclaim) left = WearsReclaiming which s.view left
+WornBy which s (Ok Stop) left = ⊥
+WornBy which s (Err refusal) left = ⊥
+
+-- of these lines a next one wore the counter
+pub record WornByNext (which : Counter) (s : State) (done lines : List LineMeaning) : Type 0 where
+  pub next : LineMeaning
+  pub has : HasNext next done lines
+  pub left : View
+  pub worn : WornBy which s next left
+
+-- ---- what an end leaves of the lines
+
+-- nothing was executed, or a next line was there
+abbrev pub IsAtLine : List Exchange → List LineMeaning → Type 0
+IsAtLine xs lines = (xs ≡ []) ⊎ ((next : LineMeaning) × HasNext next (executed xs) lines)
+
+-- how the executed lines stand to those of some bytes
+abbrev pub Among : Option Fault → List ℕ → List Exchange → Type 0
+Among None bytes xs = executed xs ≡ lines_to_run bytes
+Among (Some Device) bytes xs = IsFront (executed xs) (lines_to_run bytes)
+Among (Some (Damaged block)) bytes xs = IsAtLine xs (lines_to_run bytes)
+Among (Some Source) bytes xs = IsFront (executed xs) (lines_to_run bytes)
+Among (Some Memory) bytes xs = IsFront (executed xs) (lines_to_run bytes)
+Among (Some TooLong) bytes xs = IsFront (executed xs) (lines_to_run bytes)
+Among (Some (Worn which)) bytes xs = IsAtLine xs (lines_to_run bytes)
+Among (Some Sink) bytes xs = IsFront (executed xs) (lines_to_run bytes)
+
+-- all lines that are complete in these bytes were executed, and none of them is `stop`
+pub record AllComplete (bytes : List ℕ) (xs : List Exchange) : Type 0 where
+  pub lines_are : executed xs ≡ meanings bytes
+  pub no_stop : list_any is_stop (executed xs) ≡ false
+
+-- the lines that are complete in these bytes were executed before all others, and none of them is
+-- `stop`
+pub record BeginsWith (bytes : List ℕ) (xs : List Exchange) : Type 0 where
+  pub rest : List LineMeaning
+  pub lines_are : executed xs ≡ meanings bytes ++ rest
+  pub no_stop : list_any is_stop (meanings bytes) ≡ false
+
+-- what was taken of the script when a session ends
+abbrev pub TakenAt : Option Fault → List ℕ → List Exchange → Type 0
+TakenAt None taken xs = length taken ≤ script_limit
+TakenAt (Some Device) taken xs = length taken ≤ script_limit
+TakenAt (Some (Damaged block)) taken xs = length taken ≤ script_limit
+TakenAt (Some Source) taken xs = (length taken ≤ script_limit) × AllComplete taken xs
+TakenAt (Some Memory) taken xs = length taken ≤ script_limit
+TakenAt (Some TooLong) taken xs =
+    (length taken ≡ script_limit + 1) × AllComplete (take script_limit taken) xs
+TakenAt (Some (Worn which)) taken xs = length taken ≤ script_limit
+TakenAt (Some Sink) taken xs = length taken ≤ script_limit
+
+-- ---- what an end leaves of the replies
+
+-- all replies but the last were written, and of that one a part
+pub record IsCutShort (xs : List Exchange) (old new : Known) : Type 0 where
+  pub front : List Exchange
+  pub last : Exchange
+  pub exchanges_are : xs ≡ front ++ last ∷ []
+  pub part : WrotePart (line_reply_line last.said) (append_known old (text front)) new
+
+-- a reply was cut short, and those of the lines that are complete in these bytes were written before
+pub record IsCutAfter (bytes : List ℕ) (xs : List Exchange) (old new : Known) : Type 0 where
+  pub cut : IsCutShort xs old new
+  pub begins : BeginsWith bytes cut.front
+
+-- all replies were written, and the sink didn't pass them on: before a take, when all lines that are
+-- complete in what was taken were executed, or at the end
+pub record IsKeptBack (taken : List ℕ) (xs : List Exchange) (old new : Known) : Type 0 where
+  pub written : new ≡ append_known old (text xs)
+  pub lines_are : AllComplete taken xs ⊎ (executed xs ≡ lines_to_run taken)
+
+-- what was written of the replies when a session ends, which took `front` before its last take, and
+-- `taken` in all
+abbrev pub Replied :
+    Option Fault → List ℕ → List ℕ → List Exchange → Known → Known → Type 0
+Replied None front taken xs old new = new ≡ append_known old (text xs)
+Replied (Some Device) front taken xs old new = new ≡ append_known old (text xs)
+Replied (Some (Damaged block)) front taken xs old new = new ≡ append_known old (text xs)
+Replied (Some Source) front taken xs old new = new ≡ append_known old (text xs)
+Replied (Some Memory) front taken xs old new = new ≡ append_known old (text xs)
+Replied (Some TooLong) front taken xs old new = new ≡ append_known old (text xs)
+Replied (Some (Worn which)) front taken xs old new = new ≡ append_known old (text xs)
+Replied (Some Sink) front taken xs old new =
+    IsCutAfter front xs old new ⊎ IsKeptBack taken xs old new
+
+-- ---- what an end tells of the state
+
+-- what is told of the state before a fault's line: damage never comes, and a counter is worn by a
+-- next one of these lines
+abbrev pub Tells : Option Fault → State → List LineMeaning → List LineMeaning → Type 0
+Tells None s done lines = ⊤
+Tells (Some Device) s done lines = ⊤
+Tells (Some (Damaged block)) s done lines = ⊥
+Tells (Some Source) s done lines = ⊤
+Tells (Some Memory) s done lines = ⊤
+Tells (Some TooLong) s done lines = ⊤
+Tells (Some (Worn which)) s done lines = WornByNext which s done lines
+Tells (Some Sink) s done lines = ⊤
+
+-- `at` holds of the state after the executed lines, or of what a fault of a next line leaves of it
+abbrev pub Ends : Option Fault → State → (State → Type 0) → Type 0
+Ends None s at = at s
+Ends (Some Device) s at = Leaves s at
+Ends (Some (Damaged block)) s at = ⊥
+Ends (Some Source) s at = at s
+Ends (Some Memory) s at = Leaves s at
+Ends (Some TooLong) s at = at s
+Ends (Some (Worn which)) s at = Leaves s at
+Ends (Some Sink) s at = at s
+
+-- ---- the end of a script
+
+-- whether a `stop` was executed
+abbrev pub has_stop : List Exchange → Bool
+has_stop xs = list_any is_stop (executed xs)
+
+-- at its end all is made durable, which a `stop` did already; at a fault nothing is
+abbrev pub closed : Option Fault → Bool → State → State
+closed None stopped s = if stopped then s else synced_state s
+closed (Some e) stopped s = s
+
+-- `at` holds of the state then
+abbrev pub ClosedAt : Option Fault → (State → Type 0) → Bool → State → Type 0
+ClosedAt end at stopped s = at (closed end stopped s)
+
+-- `at` holds of the state, and how a run goes on tells whether a `stop` was executed
+abbrev pub ToldAt : Result (ControlFlow (Unit {0}) (Unit {0})) Fault → (State → Type 0) → Bool
+    → State → Type 0
+ToldAt (Ok flow) at stopped s = at s × (breaks flow ≡ stopped)
+ToldAt (Err e) at stopped s = at s
+
+-- ---- a whole session
+
+-- the state after the lines of a session, by those of what was taken and of the script; `last`
+-- holds then, by whether a `stop` is among them
+pub record EndsIn (end : Option Fault) (xs : List Exchange) (taken : List ℕ) (script : Known)
+    (last : Bool → State → Type 0) (s : State) : Type 0 where
+  pub told : Tells end s (executed xs) (lines_to_run taken)
+  pub told_script : IfSome script (λ bytes. Tells end s (executed xs) (lines_to_run bytes))
+  pub reached : Ends end s (last (has_stop xs))
+
+-- a session with a script, of which `script` is left of the source before and `rest` after, and how
+-- it was asked for: its lines with their replies, among the lines that were taken and those of the
+-- script; from each state at which it may begin they have one transcript
+pub record Session (end : Option Fault) (first : State → Type 0) (last : Bool → State → Type 0)
+    (script rest : Known) (before now : Option Takes) (old new : Known) : Type 0 where
+  pub exchanges : List Exchange
+  pub answered : AllByRecursion IsAnswered exchanges
+  pub front : List ℕ
+  pub final : List ℕ
+  pub taken : List ℕ
+  pub taken_is : taken ≡ front ++ final
+  pub script_is : script ≡ prepend_known taken rest
+  pub took : Took front final before now
+  pub begins : BeginsWith front exchanges
+  pub among_taken : Among end taken exchanges
+  pub among_script : IfSome script (λ bytes. Among end bytes exchanges)
+  pub taken_at : TakenAt end taken exchanges
+  pub replied : Replied end front taken exchanges old new
+  pub runs : (s : State) → first s
+      → HasTranscript s exchanges (EndsIn end exchanges taken script last)

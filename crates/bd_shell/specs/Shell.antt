@@ -1,0 +1,294 @@
+-- What the functions of the shell say of a shell, a line and a sink.
+use Rattle.std.specs.Prelude.{◌≡◌, ◌⊎◌, ℕ, ◌<◌, Bool, true, false, List, [], ◌∷◌, ◌++◌, if◌then◌else◌, IsSomeAnd, ⊤}
+use Rattle.std.specs.List.{list_any, AllByRecursion}
+use Rattle.std.specs.Io.KnownBytes.{append_known}
+use Rattle.std.specs.declared.option.Option.{Option}
+use Rattle.std.specs.declared.option.Option.TheVariants.{Some}
+use Rattle.std.specs.declared.result.Result.{Result}
+use Rattle.std.specs.declared.result.Result.TheVariants.{Ok, Err}
+use Rattle.bd_io.specs.Written.{WrotePart}
+use Rattle.bd_message.specs.declared.fault.Counter.{Counter}
+use Rattle.bd_model.specs.Tree.{Tree}
+use Rattle.bd_represent.specs.Represents.{Represents}
+use Rattle.bd_device.specs.Blocks.{Image}
+use Rattle.bd_device.specs.declared.device.Device.{Ghosts}
+use Rattle.bd_image.specs.ImageTree.{ImageStandsFor}
+use Rattle.bd_script.specs.Lines.{LineMeaning, HasNoNewline, line_of, held, open_line, is_empty, is_stop, up_to_stop}
+use Rattle.bd_script.specs.Replies.{line_reply_text, line_reply_line}
+use Rattle.bd_script.specs.declared.replies.LineReply.{LineReply}
+use Rattle.bd_script.specs.declared.replies.LineReply.TheVariants as reply
+use Rattle.bd_view.specs.Views.{View, keys_of}
+use Rattle.bd_volume.specs.declared.fault.Fault.{Fault as VolumeFault}
+use Rattle.bd_volume.specs.declared.fault.Fault.TheVariants as volume
+use Rattle.bd_volume.specs.declared.volume.Volume.{Volume}
+use Rattle.bd_checkpoint.specs.Recovering.{FailsFirst, IsBadIn}
+use Rattle.bd_volume.specs.Starts.{HasStarted}
+use Rattle.bd_volume.specs.Volume.{StandsFor, view_of, device_of, stop_of}
+use Rattle.bd_shell.specs.Fault.{Faults, faults}
+use Rattle.bd_shell.specs.declared.fault.Fault.{Fault}
+use Rattle.bd_shell.specs.declared.fault.Fault.TheVariants.{Device, Damaged, Source, Memory, TooLong, Worn, Sink}
+use Rattle.bd_shell.specs.declared.outcome.Ack.{Ack}
+use Rattle.bd_shell.specs.declared.acknowledged.Acknowledged.{Acknowledged}
+use Rattle.bd_shell.specs.declared.shell.Shell.{Shell}
+use Rattle.bd_shell.specs.Crashes.{IsSafeSince}
+use Rattle.bd_shell.specs.Transcript.{Known, State, with_view, Exchange, IsAnswered, MayGet, Follows, HasTranscript, text, executed, meanings, IsFront}
+use Rattle.bd_shell.specs.Session.{HasNext, WornBy, LeavesBy, Ends, Tells, IsCutShort}
+
+-- a volume stands for a state, whose view is the volume's own
+pub record VolumeAt {D : Type 0} (g : Ghosts D) (v : Volume D) (s : State) : Type 0 where
+  pub stands : StandsFor g v s.tree s.count
+  pub view_is : view_of g v ≡ s.view
+
+-- the device of a volume with acknowledgements
+abbrev pub device_below : {D : Type 0} → Acknowledged D → D
+device_below v = device_of v.volume
+
+-- the number of the device's call that stopped it
+abbrev pub stop_below : {D : Type 0} → Acknowledged D → Option ℕ
+stop_below v = stop_of v.volume
+
+-- it stands for a state, and what a crash leaves does for a point that was passed, since a device
+-- was so; its acknowledgements hold
+pub record KeptAt {D : Type 0} (g : Ghosts D) (first : D) (since : ℕ) (v : Acknowledged D)
+    (s : State) : Type 0 where
+  pub at : VolumeAt g v.volume s
+  pub safe : IsSafeSince g first since (device_below v) v.acks.items s
+
+-- so does a shell's
+abbrev pub ShellAt : {D : Type 0} → Ghosts D → D → ℕ → Shell D → State → Type 0
+ShellAt g first since shell s = KeptAt g first since shell.kept s
+
+-- what is seen of a shell's volume
+abbrev pub view_in : {D : Type 0} → Ghosts D → Shell D → View
+view_in g shell = view_of g shell.kept.volume
+
+-- what was acknowledged
+abbrev pub acks_in : {D : Type 0} → Shell D → List Ack
+acks_in shell = shell.kept.acks.items
+
+-- what is held of the next line
+abbrev pub held_of : {D : Type 0} → Shell D → List ℕ
+held_of shell = shell.line.items
+
+-- its device
+abbrev pub device_in : {D : Type 0} → Shell D → D
+device_in shell = device_below shell.kept
+
+-- the number of the device's call that stopped its volume
+abbrev pub stop_in : {D : Type 0} → Shell D → Option ℕ
+stop_in shell = stop_below shell.kept
+
+-- how often a device and a sink have failed
+abbrev pub counts_of : {D : Type 0} → Ghosts D → D → ℕ → Faults
+counts_of g d sink = faults (g.fault_count d) 0 sink
+
+-- no write and no barrier failed before this fault, unless it is the device's
+abbrev pub FailsNoWriteAt : {D : Type 0} → Ghosts D → D → D → Fault → Type 0
+FailsNoWriteAt g old new Device = ⊤
+FailsNoWriteAt g old new (Damaged block) = g.write_fault_count new ≡ g.write_fault_count old
+FailsNoWriteAt g old new Source = g.write_fault_count new ≡ g.write_fault_count old
+FailsNoWriteAt g old new Memory = g.write_fault_count new ≡ g.write_fault_count old
+FailsNoWriteAt g old new TooLong = g.write_fault_count new ≡ g.write_fault_count old
+FailsNoWriteAt g old new (Worn which) = g.write_fault_count new ≡ g.write_fault_count old
+FailsNoWriteAt g old new Sink = g.write_fault_count new ≡ g.write_fault_count old
+
+-- none failed at Ok, and at an error only where it is the device's
+abbrev pub FailsNoWrite : {D T : Type 0} → Ghosts D → D → D → Result T Fault → Type 0
+FailsNoWrite g old new (Ok x) = g.write_fault_count new ≡ g.write_fault_count old
+FailsNoWrite g old new (Err e) = FailsNoWriteAt g old new e
+
+-- damage is of a block that is why an image stands for no tree, as far as that is known
+abbrev pub NamesBadAt : Option Image → Fault → Type 0
+NamesBadAt known Device = ⊤
+NamesBadAt known (Damaged block) = IsBadIn known block
+NamesBadAt known Source = ⊤
+NamesBadAt known Memory = ⊤
+NamesBadAt known TooLong = ⊤
+NamesBadAt known (Worn which) = ⊤
+NamesBadAt known Sink = ⊤
+
+abbrev pub NamesBad : {T : Type 0} → Option Image → Result T Fault → Type 0
+NamesBad known (Ok x) = ⊤
+NamesBad known (Err e) = NamesBadAt known e
+
+-- what reads give is known, and is an image that stands for this tree after so many commands
+abbrev pub CanStart : Tree → ℕ → Option Image → Type 0
+CanStart t n contents = IsSomeAnd contents (ImageStandsFor t n)
+
+-- a start that failed called no device, or since the return of its barrier a crash leaves what stands
+-- for the tree, unless that barrier failed
+abbrev pub MayStart : {D : Type 0} → Ghosts D → D → D → Type 0
+MayStart g old new =
+    (g.call_count new ≡ g.call_count old)
+    ⊎ (0 < g.block_count old → ¬ FailsFirst g old new → (t : Tree) (n : ℕ)
+    → CanStart t n (g.contents old) → HasStarted g old new t n)
+
+-- the reply ends the run
+abbrev pub is_stopped : LineReply → Bool
+is_stopped (reply.Command r) = false
+is_stopped (reply.Unread refusal) = false
+is_stopped (reply.Walk visits height) = false
+is_stopped reply.Done = false
+is_stopped (reply.Free free slots) = false
+is_stopped (reply.Full free need) = false
+is_stopped reply.Stopped = true
+
+-- the last line of a script, where it isn't empty
+abbrev pub last_lines : List ℕ → List LineMeaning
+last_lines line = if is_empty line then [] else line_of line ∷ []
+
+-- what is held of a line that a script has begun: no newline, and no more bytes than tell what it
+-- means
+abbrev pub IsHeld : List ℕ → Type 0
+IsHeld line = held (open_line line) ≡ line
+
+-- some bytes: a line without its newline, the newline, and what follows it
+pub record CutsAt (bytes line rest : List ℕ) : Type 0 where
+  pub bytes_are : bytes ≡ line ++ 10 ∷ rest
+  pub plain : HasNoNewline line
+
+-- ---- one line
+
+-- a line's reply follows from a state, and `at` holds of the state after it, whose tree the nodes
+-- of its view represent
+pub record Replies (s : State) (line : LineMeaning) (said : LineReply) (at : State → Type 0)
+    : Type 0 where
+  pub after : State
+  pub follows : Follows s line said after
+  pub represents : Represents (keys_of after.view) after.tree
+  pub reached : at after
+
+-- a line was executed and its reply written
+pub record ExecutesOne (first last : State → Type 0) (line : LineMeaning) (old new : Known)
+    : Type 0 where
+  pub said : LineReply
+  pub answer : MayGet line said
+  pub one_line : HasNoNewline (line_reply_text said)
+  pub written : new ≡ append_known old (line_reply_line said)
+  pub replies : (s : State) → first s → Replies s line said last
+
+-- ---- faults, with what each leaves; the causes of all stand in one table
+
+-- the faults of a volume that wasn't stopped
+abbrev pub ComesNow : VolumeFault → Type 0
+ComesNow volume.Device = ⊤
+ComesNow (volume.Damaged block) = ⊤
+ComesNow (volume.Worn which) = ⊤
+ComesNow volume.NoMemory = ⊤
+ComesNow (volume.Full free need) = ⊤
+ComesNow (volume.Stopped call) = ⊥
+
+-- what a fault of the volume is for its line: want of slots is a reply, and each other one the
+-- run's fault
+abbrev pub IsOutcome : VolumeFault → Result LineReply Fault → Type 0
+IsOutcome volume.Device outcome = outcome ≡ Err Device
+IsOutcome (volume.Damaged block) outcome = outcome ≡ Err (Damaged block)
+IsOutcome (volume.Worn which) outcome = outcome ≡ Err (Worn which)
+IsOutcome volume.NoMemory outcome = outcome ≡ Err Memory
+IsOutcome (volume.Full free need) outcome = outcome ≡ Ok (reply.Full free need)
+IsOutcome (volume.Stopped call) outcome = ⊥
+
+-- the line wore the counter, and `at` holds of what is left
+pub record Wore (which : Counter) (s : State) (line : LineMeaning) (at : State → Type 0)
+    : Type 0 where
+  pub left : View
+  pub worn : WornBy which s line left
+  pub reached : at (with_view s left)
+
+-- what a line's fault before its reply leaves of a state; damage comes from none
+abbrev pub LineFails : Fault → State → LineMeaning → (State → Type 0) → Type 0
+LineFails Device s line at = LeavesBy line s at
+LineFails (Damaged block) s line at = ⊥
+LineFails Source s line at = ⊥
+LineFails Memory s line at = LeavesBy line s at
+LineFails TooLong s line at = ⊥
+LineFails (Worn which) s line at = Wore which s line at
+LineFails Sink s line at = ⊥
+
+-- the faults that a line has before its reply
+abbrev pub IsLineFault : Fault → Type 0
+IsLineFault Device = ⊤
+IsLineFault (Damaged block) = ⊤
+IsLineFault Source = ⊥
+IsLineFault Memory = ⊤
+IsLineFault TooLong = ⊥
+IsLineFault (Worn which) = ⊤
+IsLineFault Sink = ⊥
+
+-- a fault came before a line's reply, and nothing was written
+pub record FailsBefore (e : Fault) (first last : State → Type 0) (line : LineMeaning)
+    (old new : Known) : Type 0 where
+  pub unwritten : new ≡ old
+  pub leaves : (s : State) → first s → LineFails e s line last
+
+-- an executed line of whose reply only a part was written
+pub record IsCut (first last : State → Type 0) (line : LineMeaning) (old new : Known)
+    : Type 0 where
+  pub said : LineReply
+  pub answer : MayGet line said
+  pub one_line : HasNoNewline (line_reply_text said)
+  pub part : WrotePart (line_reply_line said) old new
+  pub replies : (s : State) → first s → Replies s line said last
+
+-- a fault of a line: before its reply, or within it
+abbrev pub RunFails : Fault → (State → Type 0) → (State → Type 0) → LineMeaning → Known → Known
+    → Type 0
+RunFails Device first last line old new = FailsBefore Device first last line old new
+RunFails (Damaged block) first last line old new =
+    FailsBefore (Damaged block) first last line old new
+RunFails Source first last line old new = ⊥
+RunFails Memory first last line old new = FailsBefore Memory first last line old new
+RunFails TooLong first last line old new = ⊥
+RunFails (Worn which) first last line old new = FailsBefore (Worn which) first last line old new
+RunFails Sink first last line old new = IsCut first last line old new
+
+-- some complete lines were executed, of what was begun and of a front of a piece, none of them a
+-- `stop`, and bytes are left of the piece
+pub record HasMore (begun piece : List ℕ) (xs : List Exchange) : Type 0 where
+  pub front : List ℕ
+  pub rest : List ℕ
+  pub piece_is : piece ≡ front ++ rest
+  pub lines_are : executed xs ≡ meanings (begun ++ front)
+  pub no_stop : list_any is_stop (meanings (begun ++ front)) ≡ false
+  pub some : is_empty rest ≡ false
+
+-- the lines that a piece completes, up to a `stop`
+abbrev pub completed : List ℕ → List ℕ → List LineMeaning
+completed begun piece = up_to_stop (meanings (begun ++ piece))
+
+-- how the lines executed before a fault stand to those that a piece completes
+abbrev pub Halts : Fault → List ℕ → List ℕ → List Exchange → Type 0
+Halts Device begun piece xs = HasMore begun piece xs
+Halts (Damaged block) begun piece xs = HasMore begun piece xs
+Halts Source begun piece xs = ⊥
+Halts Memory begun piece xs = HasMore begun piece xs
+Halts TooLong begun piece xs = ⊥
+Halts (Worn which) begun piece xs =
+    (next : LineMeaning) × HasNext next (executed xs) (completed begun piece)
+Halts Sink begun piece xs = IsFront (executed xs) (completed begun piece)
+
+-- what was written of the replies before a fault
+abbrev pub RepliesUpTo : Fault → List Exchange → Known → Known → Type 0
+RepliesUpTo Device xs old new = new ≡ append_known old (text xs)
+RepliesUpTo (Damaged block) xs old new = new ≡ append_known old (text xs)
+RepliesUpTo Source xs old new = new ≡ append_known old (text xs)
+RepliesUpTo Memory xs old new = new ≡ append_known old (text xs)
+RepliesUpTo TooLong xs old new = new ≡ append_known old (text xs)
+RepliesUpTo (Worn which) xs old new = new ≡ append_known old (text xs)
+RepliesUpTo Sink xs old new = IsCutShort xs old new
+
+-- the state after the lines of a piece before a fault
+pub record HaltsIn (e : Fault) (begun piece : List ℕ) (xs : List Exchange)
+    (at : State → Type 0) (s : State) : Type 0 where
+  pub told : Tells (Some e) s (executed xs) (completed begun piece)
+  pub reached : Ends (Some e) s at
+
+-- a fault came while the lines that a piece completes were executed
+pub record BreaksOff (e : Fault) (first last : State → Type 0) (begun piece : List ℕ)
+    (old new : Known) : Type 0 where
+  pub exchanges : List Exchange
+  pub answered : AllByRecursion IsAnswered exchanges
+  pub halts : Halts e begun piece exchanges
+  pub replied : RepliesUpTo e exchanges old new
+  pub runs : (s : State) → first s
+      → HasTranscript s exchanges (HaltsIn e begun piece exchanges last)

@@ -1,7 +1,0 @@
--- Each entry follows from a tree.
-use Rattle.betr.proofs.Trees.{each_can_be, image_tree}
-use Rattle.betr.proofs.Walks.{each_cheap}
-use Rattle.betr.proofs.laws.law_of_transcripts.Goals as goal
-
-pub returns : goal.returns
-returns c = record { first = image_tree; each = each_can_be; cost = each_cheap }

@@ -1,9 +1,0 @@
-pub mod Fault
-pub mod Transcript
-pub mod Crashes
-pub mod Session
-pub mod Shell
-pub mod Taken
-pub mod Format
-pub mod Fill
-pub mod Run

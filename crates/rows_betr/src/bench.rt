@@ -1,0 +1,531 @@
+//! The rows of a file, which are run while they are read.
+
+use crate::blocks::{block_in, blocks_of, copied, flip_byte, front, set_bytes, zeros};
+use crate::braces::expand;
+use crate::plan::{Plan, number_before};
+use crate::told::{Told, call, format};
+use bd_device::{Device, MemDevice};
+use std::alloc::{AllocError, Global};
+
+/// How many slots an image has of which nothing is said.
+const SLOTS: u64 = 24;
+
+/// How many rows and lines there are, and how many rows differ.
+#[derive(Clone, Copy)]
+pub struct Counts {
+    /// How many rows there are.
+    pub rows: u64,
+    /// How many lines were compared.
+    pub lines: u64,
+    /// How many rows differ.
+    pub failed: u64,
+}
+
+impl Counts {
+    /// Nothing was counted yet.
+    pub fn new() -> Counts {
+        Counts {
+            rows: 0,
+            lines: 0,
+            failed: 0,
+        }
+    }
+
+    /// The counts of both.
+    pub fn plus(self, more: Counts) -> Counts {
+        Counts {
+            rows: self.rows.saturating_add(more.rows),
+            lines: self.lines.saturating_add(more.lines),
+            failed: self.failed.saturating_add(more.failed),
+        }
+    }
+}
+
+/// The row that is read, with its device, the call that is read, and what was found.
+pub struct Bench<'t> {
+    alloc: Global,
+    file: &'t str,
+    label: &'t str,
+    shows: bool,
+    line: u64,
+    blocks: u64,
+    slots: Option<u64>,
+    is_made: bool,
+    is_wrong: bool,
+    plan: Option<Plan<'t>>,
+    script: String,
+    wanted: String,
+    places: Vec<u64>,
+    dev: MemDevice,
+    kept: MemDevice,
+    counts: Counts,
+    report: String,
+}
+
+// Written out, so that a drop is one call.
+impl Drop for Bench<'_> {
+    fn drop(self) {
+        let Bench {
+            alloc: _,
+            file: _,
+            label: _,
+            shows: _,
+            line: _,
+            blocks: _,
+            slots: _,
+            is_made: _,
+            is_wrong: _,
+            plan: _,
+            script: _,
+            wanted: _,
+            places: _,
+            dev: _,
+            kept: _,
+            counts: _,
+            report: _,
+        } = self;
+    }
+}
+
+impl<'t> Bench<'t> {
+    /// Before the first row of a file.
+    pub fn new(alloc: Global, file: &'t str, shows: bool) -> Result<Bench<'t>, AllocError> {
+        Ok(Bench {
+            alloc,
+            file,
+            label: "",
+            shows,
+            line: 0,
+            blocks: 0,
+            slots: None,
+            is_made: true,
+            is_wrong: false,
+            plan: None,
+            script: String::new(alloc),
+            wanted: String::new(alloc),
+            places: Vec::new(alloc),
+            dev: zeros(alloc, 0)?,
+            kept: zeros(alloc, 0)?,
+            counts: Counts::new(),
+            report: String::new(alloc),
+        })
+    }
+
+    /// How many rows and lines there were.
+    pub fn counts(&self) -> Counts {
+        self.counts
+    }
+
+    /// What was shown, and what differs.
+    pub fn report(&self) -> &str {
+        self.report.as_str()
+    }
+
+    /// Runs the rows of a text.
+    pub fn read(&mut self, text: &'t str) -> Result<(), AllocError> {
+        for line in text.split("\n") {
+            self.line = self.line.saturating_add(1);
+            self.read_line(line)?;
+        }
+        self.end_row()
+    }
+
+    /// Takes a line: a label, a directive, a line of a script, or one that is written. Empty lines
+    /// are left out.
+    fn read_line(&mut self, line: &'t str) -> Result<(), AllocError> {
+        if line.is_empty() {
+            return Ok(());
+        }
+        if let Some(label) = line.strip_prefix("# ") {
+            return self.begin_row(label);
+        }
+        if let Some(text) = line.strip_prefix("-- ") {
+            return self.direct(text);
+        }
+        if let Some(text) = line.strip_prefix(">") {
+            self.want_plan();
+            return self.give(text.strip_prefix(" ").unwrap_or(text), 0);
+        }
+        self.want(line)
+    }
+
+    /// Begins a row: a new image on a device of its own.
+    fn begin_row(&mut self, label: &'t str) -> Result<(), AllocError> {
+        self.end_row()?;
+        self.label = label;
+        self.counts.rows = self.counts.rows.saturating_add(1);
+        self.begin_device(blocks_of(SLOTS), Some(SLOTS));
+        Ok(())
+    }
+
+    /// Says which device the row has.
+    fn begin_device(&mut self, blocks: u64, slots: Option<u64>) {
+        self.blocks = blocks;
+        self.slots = slots;
+        self.is_made = false;
+    }
+
+    /// Ends a row.
+    fn end_row(&mut self) -> Result<(), AllocError> {
+        self.end_call()?;
+        if self.is_wrong {
+            self.counts.failed = self.counts.failed.saturating_add(1);
+        }
+        self.is_wrong = false;
+        Ok(())
+    }
+
+    /// Begins a run where there is no call.
+    fn want_plan(&mut self) {
+        if self.plan.is_none() {
+            self.plan = Some(Plan::new("betr run img", "", self.line));
+        }
+    }
+
+    /// Adds a line to the script.
+    fn give(&mut self, text: &str, number: u64) -> Result<(), AllocError> {
+        expand(&mut self.script, text, number)?;
+        self.script.push_str("\n")
+    }
+
+    /// Adds a line to what is to be written.
+    fn want(&mut self, text: &str) -> Result<(), AllocError> {
+        expand(&mut self.wanted, text, 0)?;
+        self.wanted.push_str("\n")?;
+        self.places.push(self.line)?;
+        Ok(())
+    }
+
+    /// Does what a directive says.
+    fn direct(&mut self, text: &'t str) -> Result<(), AllocError> {
+        let (name, rest) = text.split_once(" ").unwrap_or((text, ""));
+        if let Some(plan) = Plan::begun(name, rest, self.line) {
+            self.end_call()?;
+            self.plan = Some(plan);
+            return Ok(());
+        }
+        if name == "repeat" {
+            self.want_plan();
+            return self.repeat(rest);
+        }
+        if self.say(name, rest) {
+            return Ok(());
+        }
+        self.end_call()?;
+        if !self.shape(name, rest) && !self.change(name, rest)? && !self.compare(name, rest)? {
+            return self.differ(self.line, "a directive", text);
+        }
+        Ok(())
+    }
+
+    /// Takes a directive that says something of the call. Whether it is one.
+    fn say(&mut self, name: &str, rest: &'t str) -> bool {
+        let mut plan = match self.plan {
+            Some(plan) => plan,
+            None => Plan::new("betr run img", "", self.line),
+        };
+        let is_one = plan.read(name, rest);
+        if is_one {
+            self.plan = Some(plan);
+        }
+        is_one
+    }
+
+    /// Adds the same line to the script so many times, each of which is answered `ok`.
+    fn repeat(&mut self, rest: &str) -> Result<(), AllocError> {
+        let Some((times, text)) = number_before(rest) else {
+            return self.differ(self.line, "a number and a line", rest);
+        };
+        for number in 0..times {
+            self.give(text, number)?;
+            self.want("ok")?;
+        }
+        Ok(())
+    }
+
+    /// Takes a directive that says which device the row has. Whether it is one.
+    fn shape(&mut self, name: &str, rest: &str) -> bool {
+        let Ok(number) = rest.parse::<u64>() else {
+            return false;
+        };
+        match name {
+            "slots" => self.begin_device(blocks_of(number), Some(number)),
+            "blank" => self.begin_device(blocks_of(number), None),
+            "blocks" => self.begin_device(number, None),
+            _ => return false,
+        }
+        true
+    }
+
+    /// Makes the row's device, where it isn't there yet.
+    fn make(&mut self) -> Result<(), AllocError> {
+        if self.is_made {
+            return Ok(());
+        }
+        self.is_made = true;
+        self.dev = zeros(self.alloc, self.blocks)?;
+        match self.slots {
+            Some(slots) => self.make_image(slots),
+            None => Ok(()),
+        }
+    }
+
+    /// Makes an image of so many slots.
+    fn make_image(&mut self, slots: u64) -> Result<(), AllocError> {
+        let slots = format!(in self.alloc; "{slots}")?;
+        format(self.alloc, &mut self.dev, slots.as_str())
+    }
+
+    /// Changes the device. Whether the directive is one that does.
+    fn change(&mut self, name: &str, rest: &str) -> Result<bool, AllocError> {
+        self.make()?;
+        match name {
+            "keep" => self.kept = copied(self.alloc, &mut self.dev)?,
+            "back" => self.dev = copied(self.alloc, &mut self.kept)?,
+            "image" => self.show_image()?,
+            "flip" => return Ok(self.flip(rest)),
+            "set" => return self.set(rest),
+            _ => return Ok(false),
+        }
+        Ok(true)
+    }
+
+    /// Gives a block another byte. Whether there is one.
+    fn flip(&mut self, rest: &str) -> bool {
+        match number_before(rest) {
+            Some((block, at)) => match at.parse::<u64>() {
+                Ok(at) => flip_byte(&mut self.dev, block, at),
+                Err(_) => false,
+            },
+            None => false,
+        }
+    }
+
+    /// Gives a block these bytes, from a place on. Whether there is room.
+    fn set(&mut self, rest: &str) -> Result<bool, AllocError> {
+        let Some((block, at, text)) = place_in(rest) else {
+            return Ok(false);
+        };
+        let hex = self.expanded(text)?;
+        Ok(match hex::decode(self.alloc, hex.as_str()) {
+            Ok(bytes) => set_bytes(&mut self.dev, block, at, &bytes),
+            Err(_) => false,
+        })
+    }
+
+    /// A text with what stands for its braces.
+    fn expanded(&self, text: &str) -> Result<String, AllocError> {
+        let mut whole = String::new(self.alloc);
+        expand(&mut whole, text, 0)?;
+        Ok(whole)
+    }
+
+    /// Compares bytes of a block. Whether the directive is one that does.
+    fn compare(&mut self, name: &str, rest: &str) -> Result<bool, AllocError> {
+        match name {
+            "bytes" => match place_in(rest) {
+                Some((block, at, text)) => self.compare_bytes(block, at, text, false),
+                None => Ok(false),
+            },
+            "begins" => match number_before(rest) {
+                Some((block, text)) => self.compare_bytes(block, 0, text, true),
+                None => Ok(false),
+            },
+            _ => Ok(false),
+        }
+    }
+
+    /// Compares bytes of a block from a place on, also whether all after them are zeros. Whether
+    /// there are so many.
+    fn compare_bytes(
+        &mut self,
+        block: u64,
+        at: u64,
+        text: &str,
+        then_zeros: bool,
+    ) -> Result<bool, AllocError> {
+        let want = self.expanded(text)?;
+        let Some(bytes) = block_in(&mut self.dev, block) else {
+            return Ok(false);
+        };
+        let Some((found, rest)) = part_of(&bytes, at, want.len() / 2) else {
+            return Ok(false);
+        };
+        let found = hex::encode(self.alloc, found)?;
+        self.counts.lines = self.counts.lines.saturating_add(1);
+        if found.as_str() != want.as_str() {
+            self.differ(self.line, found.as_str(), want.as_str())?;
+        } else if then_zeros && !front(rest).is_empty() {
+            self.differ(self.line, "other bytes", "zeros after them")?;
+        }
+        Ok(true)
+    }
+
+    /// Shows the blocks of the device that aren't zeros, without the zeros at their ends.
+    fn show_image(&mut self) -> Result<(), AllocError> {
+        let label = self.label;
+        writeln!(self.report, "@@ {label}")?;
+        for block in 0..self.blocks {
+            if let Some(bytes) = block_in(&mut self.dev, block) {
+                self.show_block(block, front(&bytes))?;
+            }
+        }
+        Ok(())
+    }
+
+    /// Shows a block, if it has bytes.
+    fn show_block(&mut self, block: u64, bytes: &[u8]) -> Result<(), AllocError> {
+        if bytes.is_empty() {
+            return Ok(());
+        }
+        let text = hex::encode(self.alloc, bytes)?;
+        writeln!(self.report, "@ {block} {text}")
+    }
+
+    /// Tells that something else was found than was wanted.
+    fn differ(&mut self, line: u64, found: &str, want: &str) -> Result<(), AllocError> {
+        self.is_wrong = true;
+        let (file, label) = (self.file, self.label);
+        write!(self.report, "{file}:{line}: {label}: ")?;
+        writeln!(self.report, "found \"{found}\", not \"{want}\"")
+    }
+
+    /// Makes the call that was read, if there is one, and compares or shows what it did.
+    fn end_call(&mut self) -> Result<(), AllocError> {
+        let Some(plan) = self.plan else {
+            return Ok(());
+        };
+        self.plan = None;
+        self.make()?;
+        let told = call(self.alloc, &mut self.dev, &plan, self.script.as_bytes())?;
+        if let Some(torn) = plan.torn {
+            self.dev.crash(torn);
+        }
+        self.judge(&plan, &told)
+    }
+
+    /// Compares or shows what a call did.
+    fn judge(&mut self, plan: &Plan<'_>, told: &Told) -> Result<(), AllocError> {
+        if self.shows || plan.is_shown {
+            self.show(told)?;
+        } else {
+            self.judge_numbers(plan, told)?;
+            self.judge_lines(plan, told)?;
+        }
+        self.script.clear();
+        self.wanted.clear();
+        self.places.clear();
+        Ok(())
+    }
+
+    /// Shows a call.
+    fn show(&mut self, told: &Told) -> Result<(), AllocError> {
+        let label = self.label;
+        let Told {
+            status,
+            calls,
+            faults,
+            ..
+        } = told;
+        let acks = told.acks.as_str();
+        write!(self.report, "= {label} status {status} acks {acks} ")?;
+        writeln!(self.report, "calls {calls} faults {faults}")?;
+        let text = told.written.as_str();
+        let text = text.strip_suffix("\n").unwrap_or(text);
+        if text.is_empty() {
+            return Ok(());
+        }
+        for line in text.split("\n") {
+            writeln!(self.report, "| {line}")?;
+        }
+        Ok(())
+    }
+
+    /// Compares the numbers of a call.
+    fn judge_numbers(&mut self, plan: &Plan<'_>, told: &Told) -> Result<(), AllocError> {
+        self.judge_number(plan.line, "status", told.status, plan.status)?;
+        if let Some(calls) = plan.calls {
+            self.judge_number(plan.line, "calls", told.calls, calls)?;
+        }
+        if let Some(acks) = plan.acks {
+            self.judge_text(plan.line, told.acks.as_str(), acks)?;
+        }
+        if let Some(passed) = plan.passed {
+            self.judge_text(plan.line, told.passed.as_str(), passed)?;
+        }
+        Ok(())
+    }
+
+    /// Compares a number.
+    fn judge_number(
+        &mut self,
+        line: u64,
+        what: &str,
+        found: u64,
+        want: u64,
+    ) -> Result<(), AllocError> {
+        if found == want {
+            return Ok(());
+        }
+        self.is_wrong = true;
+        let (file, label) = (self.file, self.label);
+        write!(self.report, "{file}:{line}: {label}: ")?;
+        writeln!(
+            self.report,
+            "found \"{what} {found}\", not \"{what} {want}\""
+        )
+    }
+
+    /// Compares a text.
+    fn judge_text(&mut self, line: u64, found: &str, want: &str) -> Result<(), AllocError> {
+        if found == want {
+            return Ok(());
+        }
+        self.differ(line, found, want)
+    }
+
+    /// Compares the lines that a call has written, up to the first that differs.
+    fn judge_lines(&mut self, plan: &Plan<'_>, told: &Told) -> Result<(), AllocError> {
+        let lines = self.places.len() as u64;
+        self.counts.lines = self.counts.lines.saturating_add(lines);
+        if told.written.as_str() == self.wanted.as_str() {
+            return Ok(());
+        }
+        self.is_wrong = true;
+        let mut found = told.written.as_str().split("\n");
+        let mut wanted = self.wanted.as_str().split("\n");
+        let mut line = plan.line;
+        let (mut a, mut b) = ("", "");
+        for place in self.places.as_slice() {
+            if a == b {
+                line = *place;
+                a = found.next().unwrap_or("");
+                b = wanted.next().unwrap_or("");
+            }
+        }
+        if a == b {
+            a = found.next().unwrap_or("");
+            b = "";
+        }
+        let (file, label) = (self.file, self.label);
+        write!(self.report, "{file}:{line}: {label}: ")?;
+        writeln!(self.report, "found \"{a}\", not \"{b}\"")
+    }
+}
+
+/// A block, a place in it, and what stands after them.
+fn place_in(text: &str) -> Option<(u64, u64, &str)> {
+    let (block, rest) = number_before(text)?;
+    let (at, rest) = number_before(rest)?;
+    Some((block, at, rest))
+}
+
+/// So many bytes from a place on, and those after them.
+fn part_of(bytes: &[u8], at: u64, count: usize) -> Option<(&[u8], &[u8])> {
+    let at = usize::try_from(at).ok()?;
+    let tail = bytes.get(at..)?;
+    if count > tail.len() {
+        return None;
+    }
+    Some(tail.split_at(count))
+}

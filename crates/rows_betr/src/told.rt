@@ -1,0 +1,111 @@
+//! A call, and what is told of it.
+
+use crate::ends::{KeepingSink, ScriptSource};
+use crate::plan::Plan;
+use bd_calls::{row, run};
+use bd_device::{Device, FaultyDevice, FuseDevice, MemDevice};
+use bd_io::MemSink;
+use bd_shell::Ack;
+use std::alloc::{AllocError, Global};
+use std::cell::Cell;
+
+/// What is told of a call.
+pub struct Told {
+    /// Its status.
+    pub status: u64,
+    /// How many calls of the device it made.
+    pub calls: u64,
+    /// How many of them failed.
+    pub faults: u64,
+    /// The counts that it acknowledged, or `none`.
+    pub acks: String,
+    /// How many bytes its sink had passed on at each take, and at the end.
+    pub passed: String,
+    /// What it wrote.
+    pub written: String,
+}
+
+// Written out, so that a drop is one call.
+impl Drop for Told {
+    fn drop(self) {
+        let Told {
+            status: _,
+            calls: _,
+            faults: _,
+            acks: _,
+            passed: _,
+            written: _,
+        } = self;
+    }
+}
+
+/// How many bytes there is room for where an image is made.
+const ROOM: usize = 1 << 10;
+
+/// Makes an image of so many slots on a device.
+pub fn format(alloc: Global, dev: &mut MemDevice, slots: &str) -> Result<(), AllocError> {
+    let words = Plan::new("betr format img", slots, 0).words(alloc)?;
+    let mut sink = MemSink::new(alloc, ROOM, &[])?;
+    let _outcome = row(alloc, dev, &words, b"", &mut sink)?;
+    Ok(())
+}
+
+/// Makes a call over a device, of which these calls fail.
+pub fn call(
+    alloc: Global,
+    dev: &mut MemDevice,
+    plan: &Plan<'_>,
+    script: &[u8],
+) -> Result<Told, AllocError> {
+    let words = plan.words(alloc)?;
+    call_words(alloc, dev, plan, &words, script)
+}
+
+/// Makes a call with these words.
+fn call_words(
+    alloc: Global,
+    dev: &mut MemDevice,
+    plan: &Plan<'_>,
+    words: &[String],
+    script: &[u8],
+) -> Result<Told, AllocError> {
+    let fail = plan.failing(alloc, dev.calls())?;
+    let passed_on = Cell::new(0);
+    let mut src = ScriptSource::new(alloc, plan.given(script), plan, &passed_on);
+    let mut sink = KeepingSink::new(alloc, plan, &passed_on);
+    let (calls, faults) = (dev.calls(), dev.faults());
+    let mut through = FuseDevice::new(FaultyDevice::new(&mut *dev, fail), plan.passes());
+    let outcome = run(alloc, words, &mut through, &mut src, &mut sink);
+    Ok(Told {
+        status: u64::from(outcome.status),
+        calls: through.calls().saturating_sub(calls),
+        faults: through.faults().saturating_sub(faults),
+        acks: counts_in(alloc, outcome.acks.as_slice())?,
+        passed: numbers_in(alloc, src.seen(), passed_on.get())?,
+        written: String::from_utf8_lossy(alloc, sink.written())?,
+    })
+}
+
+/// The counts of acknowledgements, or `none`.
+fn counts_in(alloc: Global, acks: &[Ack]) -> Result<String, AllocError> {
+    let mut text = String::new(alloc);
+    for ack in acks {
+        let count = ack.count;
+        let space = if text.is_empty() { "" } else { " " };
+        write!(text, "{space}{count}")?;
+    }
+    if text.is_empty() {
+        text.push_str("none")?;
+    }
+    Ok(text)
+}
+
+/// These numbers, and a last one.
+fn numbers_in(alloc: Global, numbers: &[u64], last: u64) -> Result<String, AllocError> {
+    let mut text = String::new(alloc);
+    for number in numbers {
+        write!(text, "{number} ")?;
+    }
+    write!(text, "{last}")?;
+    Ok(text)
+}
