@@ -7,7 +7,7 @@ use bd_command::{Command, Reply};
 use bd_dirs::{Plan, list, plan_command, stat};
 use bd_files::{put_record, read};
 use bd_limits::{MAX_READ, MAX_WRITE};
-use bd_message::{KeyMap, Message, Messages};
+use bd_message::{KeyMap, Message};
 use bd_names::Path;
 use bd_plain::PlainTree;
 use bd_records::Record;
@@ -34,14 +34,6 @@ pub fn answer<M: Scan>(alloc: Global, map: &mut M, line: &str) -> Result<Reply, 
 pub fn plain_answer(alloc: Global, tree: &mut PlainTree, line: &str) -> Result<Reply, Fail> {
     match read_line(alloc, line.as_bytes()) {
         Ok(Line::Run(command)) => stepped(alloc, tree, &command),
-        _ => Err(Fail::new("no command")),
-    }
-}
-
-/// The messages of a line's command over a key map.
-pub fn messages_of<M: KeyMap>(alloc: Global, map: &mut M, line: &str) -> Result<Messages, Fail> {
-    match read_line(alloc, line.as_bytes()) {
-        Ok(Line::Run(command)) => planned_messages(alloc, map, &command),
         _ => Err(Fail::new("no command")),
     }
 }
@@ -85,19 +77,6 @@ fn planned<M: KeyMap>(alloc: Global, map: &mut M, command: &Command) -> Result<P
         }
     }
     Ok(plan_command(alloc, map, command)?)
-}
-
-/// The messages of a command that comes to some.
-fn planned_messages<M: KeyMap>(
-    alloc: Global,
-    map: &mut M,
-    command: &Command,
-) -> Result<Messages, Fail> {
-    match planned(alloc, map, command) {
-        Ok(Plan::Apply(list)) => Ok(list),
-        Ok(_) => Err(Fail::new("no messages")),
-        Err(fail) => Err(fail),
-    }
 }
 
 /// Does what a plan says.
