@@ -1,7 +1,9 @@
 """Runs rows of scripts, as text, through the program rows_betr, and reads what it prints."""
+import os
 import re
 import subprocess
 import tempfile
+from concurrent.futures import ThreadPoolExecutor
 from pathlib import Path
 
 SHOWN = re.compile(r"= (.*) status (\d+) acks (none|\d+(?: \d+)*) calls (\d+) faults (\d+)")
@@ -68,6 +70,11 @@ class Rows:
         if failed:
             raise RuntimeError(f"{failed} rows weren't shown")
         return shown
+
+    def show_each(self, texts):
+        """What each of many texts shows, in their order. As many as there are processors are run at once."""
+        with ThreadPoolExecutor(os.cpu_count()) as pool:
+            return list(pool.map(self.show, texts))
 
     def differ(self, text, name="compared.rows"):
         """How many rows of a text passed, and a line for each difference."""

@@ -58,30 +58,23 @@ def pairs(shown):
     return zip(shown[::2], shown[1::2])
 
 
+def each_call(rows, calls, directives):
+    """For each call of the device, the run with what `directives` gives for it, and the run after it. The ways of
+    tearing take turns."""
+    texts = [run_with(f"call {call}", directives(call), TEARS[call % 3]) for call in range(1, calls + 1)]
+    return [(ran, then) for ran, then in rows.show_each(texts)]
+
+
 def failing_device(rows, report):
-    """Each failing call of the device, with each way of tearing."""
+    """Each failing call of the device, and a device that stops at each call."""
     whole = rows.show(run_with("no call fails", [], "old"))[0]
     report(whole.written == REPLIES and whole.status == 0 and whole.calls > 100, "the script without a failing call")
-    for tear in TEARS:
-        calls = range(1, whole.calls + 1)
-        shown = rows.show("".join(run_with(f"call {call}, {tear}", [f"fail {call}"], tear) for call in calls))
-        for ran, then in pairs(shown):
-            is_right = ran.status == 3 and ran.faults == 1 and is_front(ran, then, ["fault device"], 0)
-            report(is_right, f"failing call of the device: {ran.label}: {ran.status} {ran.written} {then.written}")
-        report(len(shown) == 2 * whole.calls, "as many rows as calls")
-
-
-def stopped_device(rows, report):
-    """A device that stops at each call, with each way of tearing."""
-    calls = rows.show(run_with("no call fails", [], "old"))[0].calls
-    for tear in TEARS:
-        text = "".join(
-            f"# stop at call {call}, {tear}\n-- run\n-- fuse {call} {tear}\n{given(SCRIPT)}-- again\n{given(QUESTIONS)}"
-            for call in range(1, calls + 1)
-        )
-        for ran, then in pairs(rows.show(text)):
-            is_right = ran.status == 3 and is_front(ran, then, ["fault device"], 0)
-            report(is_right, f"stopped device: {ran.label}: {ran.status} {ran.written} {then.written}")
+    for ran, then in each_call(rows, whole.calls, lambda call: [f"fail {call}"]):
+        is_right = ran.status == 3 and ran.faults == 1 and is_front(ran, then, ["fault device"], 0)
+        report(is_right, f"failing device: {ran.label}: {ran.status} {ran.written} {then.written}")
+    for ran, then in each_call(rows, whole.calls, lambda call: [f"fuse {call} {TEARS[call % 3]}"]):
+        is_right = ran.status == 3 and is_front(ran, then, ["fault device"], 0)
+        report(is_right, f"stopped device: {ran.label}: {ran.status} {ran.written} {then.written}")
 
 
 def failing_takes(rows, report):
@@ -189,7 +182,6 @@ def bad_slot(rows, report):
 
 def test(rows, report):
     failing_device(rows, report)
-    stopped_device(rows, report)
     failing_takes(rows, report)
     failing_puts(rows, report)
     cut_scripts(rows, report)

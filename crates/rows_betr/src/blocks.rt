@@ -4,8 +4,8 @@ use bd_device::{Attach, BLOCK_SIZE, Device, MemDevice, Torn, put};
 use bd_limits::{FIRST_SLOT_BLOCK, SLOT_BLOCKS};
 use std::alloc::{AllocError, Global};
 
-/// How many writes a device records between two losses of power.
-const WRITES: usize = 1 << 15;
+/// How many writes a device records at least, between two losses of power.
+const WRITES: u64 = 1 << 13;
 
 /// How many blocks an image with so many slots has.
 pub fn blocks_of(slots: u64) -> u64 {
@@ -14,9 +14,9 @@ pub fn blocks_of(slots: u64) -> u64 {
         .saturating_add(FIRST_SLOT_BLOCK)
 }
 
-/// A device of so many zero blocks.
+/// A device of so many zero blocks, which records at least as many writes.
 pub fn zeros(alloc: Global, blocks: u64) -> Result<MemDevice, AllocError> {
-    MemDevice::new(alloc, blocks, WRITES, &[])
+    MemDevice::new(alloc, blocks, blocks.max(WRITES) as usize, &[])
 }
 
 /// The bytes of a block, if there is one of this number.

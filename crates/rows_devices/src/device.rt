@@ -1,132 +1,261 @@
+//! Devices: calls in turn, and what each of them gives.
+
 use bd_device::{Attach, BLOCK_SIZE, Device, FaultyDevice, FuseDevice, MemDevice, Torn};
 use bd_io::Failed;
+use std::process::Abort;
 use std::test::Fail;
 
-pub const NONE: [u64; 0] = [];
+/// A call of a device, or a look at it.
+#[derive(Clone, Copy)]
+pub enum Call {
+    /// Writes a block of one byte.
+    Write(u64, u8),
+    /// Reads a block, and gives its last byte.
+    Read(u64),
+    Barrier,
+    Attach,
+    /// Attaches an image of so many blocks, which is made.
+    Make(u64),
+    Blocks,
+    Calls,
+    Faults,
+    WriteFaults,
+}
 
-// Writes a block of this byte.
-pub fn write_byte<D: Device>(device: &mut D, b: u64, byte: u8) -> Result<(), Failed> {
+/// What a call gives that is done, and gives nothing else.
+pub const DONE: u64 = 0;
+
+/// What a call gives that fails.
+pub const FAILS: u64 = u64::MAX;
+
+/// Calls, and what each of them gives.
+pub type Calls = &'static [(Call, u64)];
+
+/// Writes a block of this byte.
+fn write_byte<D: Device>(device: &mut D, b: u64, byte: u8) -> Result<(), Failed> {
     if b >= device.blocks() {
         return Err(Failed);
     }
     device.write(b, &[byte; BLOCK_SIZE])
 }
 
-// The last byte of a block.
-pub fn read_byte<D: Device>(device: &mut D, b: u64) -> Result<u8, Failed> {
+/// The last byte of a block.
+fn read_byte<D: Device>(device: &mut D, b: u64) -> u64 {
     if b >= device.blocks() {
-        return Err(Failed);
+        return FAILS;
     }
     let mut into = [0; BLOCK_SIZE];
-    device.read(b, &mut into)?;
-    Ok(into[BLOCK_SIZE - 1])
+    match device.read(b, &mut into) {
+        Ok(()) => u64::from(into[BLOCK_SIZE - 1]),
+        Err(Failed) => FAILS,
+    }
 }
+
+/// Whether a call was done.
+fn told(done: Result<(), Failed>) -> u64 {
+    match done {
+        Ok(()) => DONE,
+        Err(Failed) => FAILS,
+    }
+}
+
+/// Makes a call on the image of this name, and returns what it gives.
+fn made<D: Attach>(device: &mut D, name: &str, call: Call) -> u64 {
+    match call {
+        Call::Write(b, byte) => told(write_byte(device, b, byte)),
+        Call::Read(b) => read_byte(device, b),
+        Call::Barrier => told(device.barrier()),
+        Call::Attach => told(device.attach(name, None)),
+        Call::Make(blocks) => told(device.attach(name, Some(blocks))),
+        Call::Blocks => device.blocks(),
+        Call::Calls => device.calls(),
+        Call::Faults => device.faults(),
+        Call::WriteFaults => device.write_faults(),
+    }
+}
+
+/// Makes calls in turn on the image of this name, each of which gives what is wanted.
+pub fn run<D: Attach>(
+    rt: &impl Abort,
+    label: &str,
+    device: &mut D,
+    name: &str,
+    calls: &[(Call, u64)],
+) {
+    for (at, (call, want)) in calls.iter().enumerate() {
+        let found = made(device, name, *call);
+        assert_eq!(rt; found, *want, "{label}: call {at}");
+    }
+}
+
+/// A call that fails for want of room for its record leaves what was there.
+const ONE_WRITE: Calls = &[
+    (Call::Write(1, 7), DONE),
+    (Call::Barrier, DONE),
+    (Call::Write(2, 8), FAILS),
+    (Call::Read(0), 0),
+    (Call::Read(1), 7),
+    (Call::Read(2), 0),
+];
 
 #[test]
 fn reads_give_what_was_written(rt: HostRuntime) -> Result<(), Fail> {
-    // There is room for one record of a write.
-    let mut device = MemDevice::new(rt.alloc(), 3, 1, &NONE)?;
-    assert_eq!(rt; write_byte(&mut &mut device, 1, 7), Ok(()));
-    assert_eq!(rt; device.barrier(), Ok(()));
-    assert_eq!(rt; write_byte(&mut &mut device, 2, 8), Err(Failed));
-    for (b, byte) in [(0, 0), (1, 7), (2, 0)] {
-        assert_eq!(rt; read_byte(&mut &mut device, b), Ok(byte), "block {b}");
-    }
+    let mut device = MemDevice::new(rt.alloc(), 3, 1, &[])?;
+    run(&rt, "one write", &mut &mut device, "img", ONE_WRITE);
     assert_eq!(rt; device.writes().len(), 1);
     Ok(())
 }
 
+/// An attach takes the image or makes one, of no more blocks than there are.
+const ATTACHES: Calls = &[
+    (Call::Write(1, 7), DONE),
+    (Call::Attach, DONE),
+    (Call::Blocks, 3),
+    (Call::Make(2), DONE),
+    (Call::Blocks, 2),
+    (Call::Make(4), FAILS),
+    (Call::Blocks, 0),
+    (Call::Attach, DONE),
+    (Call::Blocks, 2),
+    (Call::Read(1), 7),
+];
+
+/// What calls give where the one of this number fails.
+const FAILING: [(u64, Calls); 4] = [
+    (
+        1,
+        &[
+            (Call::Write(0, 5), FAILS),
+            (Call::Barrier, DONE),
+            (Call::Read(0), 0),
+            (Call::Attach, DONE),
+            (Call::WriteFaults, 1),
+        ],
+    ),
+    (
+        2,
+        &[
+            (Call::Write(0, 5), DONE),
+            (Call::Barrier, FAILS),
+            (Call::Read(0), 5),
+            (Call::Attach, DONE),
+            (Call::WriteFaults, 1),
+        ],
+    ),
+    (
+        3,
+        &[
+            (Call::Write(0, 5), DONE),
+            (Call::Barrier, DONE),
+            (Call::Read(0), FAILS),
+            (Call::Attach, DONE),
+            (Call::WriteFaults, 0),
+        ],
+    ),
+    (
+        4,
+        &[
+            (Call::Write(0, 5), DONE),
+            (Call::Barrier, DONE),
+            (Call::Read(0), 5),
+            (Call::Attach, FAILS),
+            (Call::WriteFaults, 0),
+        ],
+    ),
+];
+
 #[test]
 fn an_attach_takes_the_image_or_makes_one(rt: HostRuntime) -> Result<(), Fail> {
-    let mut device = MemDevice::new(rt.alloc(), 3, 1, &NONE)?;
-    assert_eq!(rt; write_byte(&mut device, 1, 7), Ok(()));
-    for (create, want, blocks) in [
-        (None, Ok(()), 3),
-        (Some(2), Ok(()), 2),
-        (Some(4), Err(Failed), 0),
-        (None, Ok(()), 2),
-    ] {
-        assert_eq!(rt;
-            (&mut device).attach("img", create),
-            want,
-            "attach {create:?}"
-        );
-        assert_eq!(rt; device.blocks(), blocks, "attach {create:?}");
-    }
-    assert_eq!(rt; read_byte(&mut device, 1), Ok(7));
+    let mut device = MemDevice::new(rt.alloc(), 3, 1, &[])?;
+    run(&rt, "attaches", &mut &mut device, "img", ATTACHES);
     Ok(())
-}
-
-// What the calls of a device answer that fails at this call: a write, a barrier, a read and an
-// attach.
-fn answers(device: &mut MemDevice) -> [bool; 4] {
-    [
-        write_byte(device, 0, 5).is_ok(),
-        device.barrier().is_ok(),
-        read_byte(device, 0).is_ok(),
-        device.attach("img", None).is_ok(),
-    ]
 }
 
 #[test]
 fn each_call_fails_where_it_is_told_to(rt: HostRuntime) -> Result<(), Fail> {
-    for (fail, want, write_faults) in [
-        (1, [false, true, true, true], 1),
-        (2, [true, false, true, true], 1),
-        (3, [true, true, false, true], 0),
-        (4, [true, true, true, false], 0),
-    ] {
+    for (fail, calls) in FAILING {
         let mut device = MemDevice::new(rt.alloc(), 2, 9, &[fail])?;
-        assert_eq!(rt; answers(&mut device), want, "call {fail} fails");
-        assert_eq!(rt; device.write_faults(), write_faults, "call {fail} fails");
+        run(&rt, "a call that fails", &mut device, "img", calls);
     }
     Ok(())
 }
 
+/// Writes before a loss of power, the first of which a barrier followed, and the last of which fails.
+const IN_FLIGHT: Calls = &[
+    (Call::Write(0, 1), DONE),
+    (Call::Barrier, DONE),
+    (Call::Write(0, 2), DONE),
+    (Call::Write(1, 3), FAILS),
+];
+
+/// What is there after a loss of power that tears so.
+const TORN: [(Torn, Calls); 3] = [
+    (
+        Torn::Old,
+        &[(Call::Read(0), 1), (Call::Read(1), 0), (Call::Read(2), 0)],
+    ),
+    (
+        Torn::New,
+        &[(Call::Read(0), 2), (Call::Read(1), 0), (Call::Read(2), 0)],
+    ),
+    (
+        Torn::Fill(9),
+        &[(Call::Read(0), 9), (Call::Read(1), 9), (Call::Read(2), 0)],
+    ),
+];
+
 #[test]
 fn a_loss_of_power_tears_what_is_in_flight(rt: HostRuntime) -> Result<(), Fail> {
-    for (how, byte) in [(Torn::Old, 1), (Torn::New, 2), (Torn::Fill(9), 9)] {
+    for (how, left) in TORN {
         let mut device = MemDevice::new(rt.alloc(), 3, 4, &[4])?;
-        assert_eq!(rt; write_byte(&mut device, 0, 1), Ok(()));
-        assert_eq!(rt; device.barrier(), Ok(()));
-        assert_eq!(rt; write_byte(&mut device, 0, 2), Ok(()));
-        assert_eq!(rt; write_byte(&mut device, 1, 3), Err(Failed));
+        run(&rt, "in flight", &mut device, "img", IN_FLIGHT);
         device.crash(how);
-        assert_eq!(rt; read_byte(&mut device, 0), Ok(byte), "torn to {byte}");
-        let other = if let Torn::Fill(x) = how { x } else { 0 };
-        assert_eq!(rt; read_byte(&mut device, 1), Ok(other));
-        assert_eq!(rt; read_byte(&mut device, 2), Ok(0));
+        run(&rt, "after a loss of power", &mut device, "img", left);
         assert_eq!(rt; device.writes().len(), 0);
     }
     Ok(())
 }
 
+/// Calls of which two are passed on.
+const BLOWN: Calls = &[
+    (Call::Write(0, 1), DONE),
+    (Call::Barrier, DONE),
+    (Call::Barrier, FAILS),
+    (Call::Read(0), FAILS),
+    (Call::Attach, FAILS),
+    (Call::Calls, 5),
+    (Call::Faults, 3),
+    (Call::WriteFaults, 1),
+    (Call::Blocks, 0),
+];
+
 #[test]
 fn a_fuse_blows_once_and_for_all(rt: HostRuntime) -> Result<(), Fail> {
-    let mut device = FuseDevice::new(MemDevice::new(rt.alloc(), 3, 4, &NONE)?, 2);
-    assert_eq!(rt; write_byte(&mut device, 0, 1), Ok(()));
-    assert_eq!(rt; device.barrier(), Ok(()));
-    assert_eq!(rt; device.barrier(), Err(Failed));
-    assert_eq!(rt; read_byte(&mut device, 0), Err(Failed));
-    assert_eq!(rt; device.attach("img", None), Err(Failed));
-    assert_eq!(rt; (device.calls(), device.faults()), (5, 3));
-    assert_eq!(rt; (device.write_faults(), device.blocks()), (1, 0));
+    let mut device = FuseDevice::new(MemDevice::new(rt.alloc(), 3, 4, &[])?, 2);
+    run(&rt, "a fuse", &mut device, "img", BLOWN);
     let inner = device.into_inner();
     assert_eq!(rt; (inner.calls(), inner.blocks()), (2, 3));
     Ok(())
 }
 
+/// Calls of which the second and the third fail.
+const LISTED: Calls = &[
+    (Call::Write(0, 1), DONE),
+    (Call::Write(0, 1), FAILS),
+    (Call::Attach, FAILS),
+    (Call::Blocks, 0),
+    (Call::Attach, DONE),
+    (Call::Read(0), 1),
+    (Call::Calls, 5),
+    (Call::Faults, 2),
+    (Call::WriteFaults, 1),
+    (Call::Blocks, 3),
+];
+
 #[test]
 fn listed_calls_fail_over_another_device(rt: HostRuntime) -> Result<(), Fail> {
-    let inner = MemDevice::new(rt.alloc(), 3, 4, &NONE)?;
+    let inner = MemDevice::new(rt.alloc(), 3, 4, &[])?;
     let mut device = FaultyDevice::new(inner, [2, 3].to_vec(rt.alloc())?);
-    assert_eq!(rt; write_byte(&mut device, 0, 1), Ok(()));
-    assert_eq!(rt; write_byte(&mut device, 0, 1), Err(Failed));
-    assert_eq!(rt; device.attach("img", None), Err(Failed));
-    assert_eq!(rt; device.blocks(), 0);
-    assert_eq!(rt; device.attach("img", None), Ok(()));
-    assert_eq!(rt; read_byte(&mut device, 0), Ok(1));
-    assert_eq!(rt; (device.calls(), device.faults()), (5, 2));
-    assert_eq!(rt; (device.write_faults(), device.blocks()), (1, 3));
+    run(&rt, "listed calls", &mut device, "img", LISTED);
     Ok(())
 }

@@ -1,107 +1,114 @@
-use crate::device::{NONE, read_byte, write_byte};
-use bd_device::{Attach, Device, FaultyDevice, FuseDevice, MemDevice, Torn};
-use bd_io::Failed;
+//! Mirrors of two devices in memory: calls of a mirror and of its halves.
+
+use crate::device::{Call, Calls, DONE, FAILS, run};
+use bd_device::{Attach, FaultyDevice, FuseDevice, MemDevice, Torn};
 use bd_mirror::Mirror;
 use std::alloc::{AllocError, Global};
+use std::process::Abort;
 use std::test::Fail;
 
-/// How many blocks a mirror has here. A half has one more, its mark.
-const BLOCKS: u64 = 2;
-
-/// How many calls of the first half an attach takes that copies it to the second one.
+/// How many calls of the first half an attach takes that copies it to the second one, which has two
+/// blocks and a mark.
 const FIRST_CALLS: u64 = 9;
 
 /// How many calls of the second half that takes.
 const SECOND_CALLS: u64 = 6;
 
-/// How many calls of a half the writes and barriers of `turn` take.
+/// How many calls of a half the writes and barriers of `AGAIN` take.
 const TURN_CALLS: u64 = 4;
 
-// A half in memory.
+/// The mirror is made anew, and two blocks are written and read.
+const MADE: Calls = &[
+    (Call::Make(2), DONE),
+    (Call::Write(0, 1), DONE),
+    (Call::Barrier, DONE),
+    (Call::Write(1, 2), DONE),
+    (Call::Barrier, DONE),
+    (Call::Read(0), 1),
+    (Call::Read(1), 2),
+];
+
+/// It is attached again, and both are written once more.
+const AGAIN: Calls = &[
+    (Call::Attach, DONE),
+    (Call::Write(0, 3), DONE),
+    (Call::Barrier, DONE),
+    (Call::Write(1, 4), DONE),
+    (Call::Barrier, DONE),
+    (Call::Read(0), 3),
+    (Call::Read(1), 4),
+];
+
+/// It can't be attached again.
+const REFUSED: Calls = &[(Call::Attach, FAILS)];
+
+/// What is there before `AGAIN`, and after it.
+const OLD: Calls = &[(Call::Read(0), 1), (Call::Read(1), 2)];
+
+const NEW: Calls = &[(Call::Read(0), 3), (Call::Read(1), 4)];
+
+/// The same where it is attached first.
+const OLD_AGAIN: Calls = &[(Call::Attach, DONE), (Call::Read(0), 1), (Call::Read(1), 2)];
+
+const NEW_AGAIN: Calls = &[(Call::Attach, DONE), (Call::Read(0), 3), (Call::Read(1), 4)];
+
+/// A half in memory: two blocks and a mark.
 fn half(alloc: Global) -> Result<MemDevice, AllocError> {
-    MemDevice::new(alloc, BLOCKS + 1, 99, &NONE)
+    MemDevice::new(alloc, 3, 99, &[])
 }
 
-// Writes two blocks, and reads them.
-fn turn<D: Device>(device: &mut D, bytes: [u8; 2]) -> Result<[u8; 2], Failed> {
-    write_byte(device, 0, bytes[0])?;
-    device.barrier()?;
-    write_byte(device, 1, bytes[1])?;
-    device.barrier()?;
-    found(device)
+/// A half of which a call fails.
+fn faulty(alloc: Global, call: u64) -> Result<FaultyDevice<MemDevice>, AllocError> {
+    let calls = [call].to_vec(alloc)?;
+    Ok(FaultyDevice::new(half(alloc)?, calls))
 }
 
-// The bytes of two blocks.
-fn found<D: Device>(device: &mut D) -> Result<[u8; 2], Failed> {
-    Ok([read_byte(device, 0)?, read_byte(device, 1)?])
-}
-
-// Attaches both halves, makes a turn, and reads what it wrote.
-fn mirrored<A: Attach + Drop, B: Attach + Drop>(
+/// Makes calls of a mirror of two halves.
+fn joined<A: Attach + Drop, B: Attach + Drop>(
+    rt: &impl Abort,
+    label: &str,
     first: A,
     second: B,
-    create: Option<u64>,
-    bytes: [u8; 2],
-) -> Result<[u8; 2], Failed> {
-    let mut mirror = Mirror::new(first, second);
-    mirror.attach("x+y", create)?;
-    turn(&mut mirror, bytes)
+    calls: &[(Call, u64)],
+) {
+    run(rt, label, &mut Mirror::new(first, second), "x+y", calls);
 }
 
-// Attaches both halves again, and reads what the mirror has, and each half.
-fn again(first: &mut MemDevice, second: &mut MemDevice) -> Result<[[u8; 2]; 3], Failed> {
-    let both = joined(&mut *first, &mut *second)?;
-    Ok([both, found(first)?, found(second)?])
-}
-
-fn joined<A: Attach + Drop, B: Attach + Drop>(first: A, second: B) -> Result<[u8; 2], Failed> {
-    attached_again(&mut Mirror::new(first, second))
-}
-
-// Attaches both halves, and reads what there is.
-fn attached_again<D: Attach>(mirror: &mut D) -> Result<[u8; 2], Failed> {
-    mirror.attach("x+y", None)?;
-    found(mirror)
-}
-
-/// What is found in turns over two halves.
+/// A mirror is made, and attached again, where the first half fails after so many calls: what is
+/// seen then, in the second half after that, and in the mirror and in both halves at last.
 #[derive(Clone, Copy)]
-struct Outcome {
-    /// With both halves, made anew.
-    before: Result<[u8; 2], Failed>,
-    /// Attached again, and with the first half failing after some calls.
-    during: Result<[u8; 2], Failed>,
-    /// In the second half, after that.
-    second: Result<[u8; 2], Failed>,
-    /// Attached again, and in each half.
-    after: Result<[[u8; 2]; 3], Failed>,
+struct Turns {
+    calls: u64,
+    during: Calls,
+    second: Calls,
+    at_last: Calls,
+    in_each: Calls,
 }
 
-// The first half fails after so many calls of the second turn.
-fn turns(alloc: Global, calls: u64) -> Result<Outcome, AllocError> {
+fn take_turns(rt: &impl Abort, alloc: Global, turns: &Turns) -> Result<(), AllocError> {
     let mut first = half(alloc)?;
     let mut second = half(alloc)?;
-    Ok(Outcome {
-        before: mirrored(&mut first, &mut second, Some(BLOCKS), [1, 2]),
-        during: mirrored(
-            FuseDevice::new(&mut first, calls),
-            &mut second,
-            None,
-            [3, 4],
-        ),
-        second: found(&mut second),
-        after: again(&mut first, &mut second),
-    })
+    joined(rt, "made", &mut first, &mut second, MADE);
+    let fuse = FuseDevice::new(&mut first, turns.calls);
+    joined(rt, "during", fuse, &mut second, turns.during);
+    run(rt, "second", &mut second, "y", turns.second);
+    joined(rt, "at last", &mut first, &mut second, turns.at_last);
+    run(rt, "first at last", &mut first, "x", turns.in_each);
+    run(rt, "second at last", &mut second, "y", turns.in_each);
+    Ok(())
 }
 
 #[test]
 fn without_its_first_half_it_goes_on(rt: HostRuntime) -> Result<(), Fail> {
     for calls in FIRST_CALLS..FIRST_CALLS + TURN_CALLS {
-        let seen = turns(rt.alloc(), calls)?;
-        assert_eq!(rt; seen.before, Ok([1, 2]));
-        assert_eq!(rt; seen.during, Ok([3, 4]), "{calls} calls");
-        assert_eq!(rt; seen.second, Ok([3, 4]), "{calls} calls");
-        assert_eq!(rt; seen.after, Ok([[3, 4]; 3]), "{calls} calls");
+        let turns = Turns {
+            calls,
+            during: AGAIN,
+            second: NEW,
+            at_last: NEW_AGAIN,
+            in_each: NEW,
+        };
+        take_turns(&rt, rt.alloc(), &turns)?;
     }
     Ok(())
 }
@@ -109,99 +116,108 @@ fn without_its_first_half_it_goes_on(rt: HostRuntime) -> Result<(), Fail> {
 #[test]
 fn an_attach_that_fails_loses_nothing(rt: HostRuntime) -> Result<(), Fail> {
     for calls in 0..FIRST_CALLS {
-        let seen = turns(rt.alloc(), calls)?;
-        assert_eq!(rt; seen.before, Ok([1, 2]));
-        assert_eq!(rt; seen.during, Err(Failed), "{calls} calls");
-        assert_eq!(rt; seen.after, Ok([[1, 2]; 3]), "{calls} calls");
+        let turns = Turns {
+            calls,
+            during: REFUSED,
+            second: &[],
+            at_last: OLD_AGAIN,
+            in_each: OLD,
+        };
+        take_turns(&rt, rt.alloc(), &turns)?;
     }
     Ok(())
-}
-
-// With this call of the first half failing.
-fn without_a_first_call(alloc: Global, call: u64) -> Result<Result<[u8; 2], Failed>, AllocError> {
-    let first = FaultyDevice::new(half(alloc)?, Vec::from_slice(alloc, &[call])?);
-    Ok(mirrored(first, half(alloc)?, Some(BLOCKS), [5, 6]))
-}
-
-// With this call of the second half failing.
-fn without_a_second_call(alloc: Global, call: u64) -> Result<Result<[u8; 2], Failed>, AllocError> {
-    let second = FaultyDevice::new(half(alloc)?, Vec::from_slice(alloc, &[call])?);
-    Ok(mirrored(half(alloc)?, second, Some(BLOCKS), [5, 6]))
 }
 
 #[test]
 fn one_fault_of_one_half_is_not_seen(rt: HostRuntime) -> Result<(), Fail> {
+    let alloc = rt.alloc();
     for call in FIRST_CALLS + 1..FIRST_CALLS + TURN_CALLS + 3 {
-        let seen = without_a_first_call(rt.alloc(), call)?;
-        assert_eq!(rt; seen, Ok([5, 6]), "call {call} of the first half");
+        joined(&rt, "first", faulty(alloc, call)?, half(alloc)?, MADE);
     }
     for call in SECOND_CALLS + 1..SECOND_CALLS + TURN_CALLS + 3 {
-        let seen = without_a_second_call(rt.alloc(), call)?;
-        assert_eq!(rt; seen, Ok([5, 6]), "call {call} of the second half");
+        joined(&rt, "second", half(alloc)?, faulty(alloc, call)?, MADE);
     }
     Ok(())
 }
 
-/// What a mirror does both of whose halves fail in one call.
-#[derive(Clone, Copy)]
-struct Broken {
-    /// Whether a turn is done.
-    turned: bool,
-    /// What is found after it.
-    read: Result<[u8; 2], Failed>,
-    /// Whether a barrier is done, and how many blocks it has.
-    settled: (bool, u64),
-    /// What is found once it is attached again.
-    again: Result<[u8; 2], Failed>,
-}
-
-// With these calls of both halves failing, after an attach.
-fn failing_at(alloc: Global, first: u64, second: u64) -> Result<Broken, AllocError> {
-    let first = FaultyDevice::new(half(alloc)?, Vec::from_slice(alloc, &[first])?);
-    let second = FaultyDevice::new(half(alloc)?, Vec::from_slice(alloc, &[second])?);
-    let mut mirror = Mirror::new(first, second);
-    let _ = mirror.attach("x+y", Some(BLOCKS));
-    let turned = turn(&mut mirror, [1, 2]).is_ok();
-    let read = found(&mut mirror);
-    let settled = (mirror.barrier().is_ok(), mirror.blocks());
-    let again = attached_again(&mut mirror);
-    Ok(Broken {
-        turned,
-        read,
-        settled,
-        again,
-    })
-}
+/// Calls of both halves that fail, and what a mirror gives then. It is broken until it is attached
+/// again.
+const BROKEN: [(u64, u64, Calls); 4] = [
+    (
+        10,
+        7,
+        &[
+            (Call::Make(2), DONE),
+            (Call::Write(0, 1), FAILS),
+            (Call::Read(0), FAILS),
+            (Call::Barrier, FAILS),
+            (Call::Blocks, 2),
+            (Call::Attach, DONE),
+            (Call::Read(0), 0),
+            (Call::Read(1), 0),
+        ],
+    ),
+    (
+        11,
+        8,
+        &[
+            (Call::Make(2), DONE),
+            (Call::Write(0, 1), DONE),
+            (Call::Barrier, FAILS),
+            (Call::Read(0), FAILS),
+            (Call::Barrier, FAILS),
+            (Call::Blocks, 2),
+            (Call::Attach, DONE),
+            (Call::Read(0), 1),
+            (Call::Read(1), 0),
+        ],
+    ),
+    (
+        12,
+        9,
+        &[
+            (Call::Make(2), DONE),
+            (Call::Write(0, 1), DONE),
+            (Call::Barrier, DONE),
+            (Call::Write(1, 2), FAILS),
+            (Call::Read(0), FAILS),
+            (Call::Barrier, FAILS),
+            (Call::Blocks, 2),
+            (Call::Attach, DONE),
+            (Call::Read(0), 1),
+            (Call::Read(1), 0),
+        ],
+    ),
+    (
+        13,
+        10,
+        &[
+            (Call::Make(2), DONE),
+            (Call::Write(0, 1), DONE),
+            (Call::Barrier, DONE),
+            (Call::Write(1, 2), DONE),
+            (Call::Barrier, FAILS),
+            (Call::Read(0), FAILS),
+            (Call::Barrier, FAILS),
+            (Call::Blocks, 2),
+            (Call::Attach, DONE),
+            (Call::Read(0), 1),
+            (Call::Read(1), 2),
+        ],
+    ),
+];
 
 #[test]
 fn with_both_failing_it_is_broken(rt: HostRuntime) -> Result<(), Fail> {
-    for (first, second, again) in [
-        (10, 7, [0, 0]),
-        (11, 8, [1, 0]),
-        (12, 9, [1, 0]),
-        (13, 10, [1, 2]),
-    ] {
-        let seen = failing_at(rt.alloc(), first, second)?;
-        assert!(rt; !seen.turned, "calls {first} and {second}");
-        assert_eq!(rt; seen.read, Err(Failed), "calls {first} and {second}");
-        assert_eq!(rt; seen.settled, (false, BLOCKS), "calls {first} and {second}");
-        assert_eq!(rt; seen.again, Ok(again), "calls {first} and {second}");
-    }
-    Ok(())
-}
-
-// Attaches both halves, writes two blocks, and waits for them where `settled` says so.
-fn written<A: Attach + Drop, B: Attach + Drop>(
-    first: A,
-    second: B,
-    settled: bool,
-) -> Result<(), Failed> {
-    let mut mirror = Mirror::new(first, second);
-    mirror.attach("x+y", None)?;
-    write_byte(&mut mirror, 0, 3)?;
-    write_byte(&mut mirror, 1, 4)?;
-    if settled {
-        mirror.barrier()?;
+    let alloc = rt.alloc();
+    for (first, second, calls) in BROKEN {
+        joined(
+            &rt,
+            "broken",
+            faulty(alloc, first)?,
+            faulty(alloc, second)?,
+            calls,
+        );
     }
     Ok(())
 }
@@ -211,103 +227,129 @@ fn written<A: Attach + Drop, B: Attach + Drop>(
 struct Loss {
     /// After so many calls the first half fails.
     calls: u64,
-    /// Whether a barrier comes after the writes.
-    settled: bool,
+    /// The writes, maybe with a barrier after them.
+    writes: Calls,
     /// What the loss leaves of each half.
     first: Torn,
     second: Torn,
 }
 
-// What is found after it, with the halves named in their order or turned.
-fn found_after(
+const WRITES: Calls = &[
+    (Call::Attach, DONE),
+    (Call::Write(0, 3), DONE),
+    (Call::Write(1, 4), DONE),
+];
+
+const SETTLED: Calls = &[
+    (Call::Attach, DONE),
+    (Call::Write(0, 3), DONE),
+    (Call::Write(1, 4), DONE),
+    (Call::Barrier, DONE),
+];
+
+/// What is found after it, with the halves named in their order or turned.
+fn lose_power(
+    rt: &impl Abort,
     alloc: Global,
     loss: Loss,
     turned: bool,
-) -> Result<Result<[u8; 2], Failed>, AllocError> {
+    found: [u64; 2],
+) -> Result<(), AllocError> {
     let mut first = half(alloc)?;
     let mut second = half(alloc)?;
-    let _ = mirrored(&mut first, &mut second, Some(BLOCKS), [1, 2]);
-    let _ = written(
-        FuseDevice::new(&mut first, loss.calls),
-        &mut second,
-        loss.settled,
-    );
+    joined(rt, "made", &mut first, &mut second, MADE);
+    let fuse = FuseDevice::new(&mut first, loss.calls);
+    joined(rt, "lost", fuse, &mut second, loss.writes);
     first.crash(loss.first);
     second.crash(loss.second);
-    Ok(if turned {
-        joined(&mut second, &mut first)
+    let left = [
+        (Call::Attach, DONE),
+        (Call::Read(0), found[0]),
+        (Call::Read(1), found[1]),
+    ];
+    if turned {
+        joined(rt, "turned", &mut second, &mut first, &left);
     } else {
-        joined(&mut first, &mut second)
-    })
-}
-
-#[test]
-fn a_loss_of_power_leaves_what_one_half_had(rt: HostRuntime) -> Result<(), Fail> {
-    let torn = Torn::Fill(9);
-    let (all, one) = (99, FIRST_CALLS);
-    for (row, calls, settled, first, second, named, turned) in [
-        ("both old", all, false, Torn::Old, Torn::Old, [1, 2], [1, 2]),
-        ("old, new", all, false, Torn::Old, Torn::New, [1, 2], [3, 4]),
-        ("new, old", all, false, Torn::New, Torn::Old, [3, 4], [1, 2]),
-        ("torn, new", all, false, torn, Torn::New, [9, 9], [3, 4]),
-        ("new, torn", all, false, Torn::New, torn, [3, 4], [9, 9]),
-        ("settled", all, true, Torn::Old, torn, [3, 4], [3, 4]),
-        ("alone, old", one, false, torn, Torn::Old, [3, 2], [3, 2]),
-        ("alone, torn", one, false, Torn::Old, torn, [3, 9], [3, 9]),
-        ("alone last", one + 1, false, torn, torn, [3, 4], [3, 4]),
-    ] {
-        let loss = Loss {
-            calls,
-            settled,
-            first,
-            second,
-        };
-        assert_eq!(rt; found_after(rt.alloc(), loss, false)?, Ok(named), "{row}");
-        assert_eq!(rt;
-            found_after(rt.alloc(), loss, true)?,
-            Ok(turned),
-            "{row}, turned"
-        );
+        joined(rt, "named", &mut first, &mut second, &left);
     }
     Ok(())
 }
 
-// Whether a mirror of halves with so many blocks can attach a name, and how many blocks it has then.
-fn attached(
-    alloc: Global,
-    blocks: (u64, u64),
-    name: &str,
-    create: Option<u64>,
-) -> Result<(bool, u64), AllocError> {
-    let first = MemDevice::new(alloc, blocks.0, 9, &NONE)?;
-    let second = MemDevice::new(alloc, blocks.1, 9, &NONE)?;
-    let mut mirror = Mirror::new(first, second);
-    let done = mirror.attach(name, create).is_ok();
-    Ok((done, mirror.blocks()))
+const ALL: u64 = 99;
+
+/// Losses, and what is found after each, with the halves named in their order and turned.
+const LOSSES: [(u64, Calls, Torn, Torn, [u64; 2], [u64; 2]); 9] = [
+    (ALL, WRITES, Torn::Old, Torn::Old, [1, 2], [1, 2]),
+    (ALL, WRITES, Torn::Old, Torn::New, [1, 2], [3, 4]),
+    (ALL, WRITES, Torn::New, Torn::Old, [3, 4], [1, 2]),
+    (ALL, WRITES, Torn::Fill(9), Torn::New, [9, 9], [3, 4]),
+    (ALL, WRITES, Torn::New, Torn::Fill(9), [3, 4], [9, 9]),
+    (ALL, SETTLED, Torn::Old, Torn::Fill(9), [3, 4], [3, 4]),
+    (
+        FIRST_CALLS,
+        WRITES,
+        Torn::Fill(9),
+        Torn::Old,
+        [3, 2],
+        [3, 2],
+    ),
+    (
+        FIRST_CALLS,
+        WRITES,
+        Torn::Old,
+        Torn::Fill(9),
+        [3, 9],
+        [3, 9],
+    ),
+    (
+        FIRST_CALLS + 1,
+        WRITES,
+        Torn::Fill(9),
+        Torn::Fill(9),
+        [3, 4],
+        [3, 4],
+    ),
+];
+
+#[test]
+fn a_loss_of_power_leaves_what_one_half_had(rt: HostRuntime) -> Result<(), Fail> {
+    for (calls, writes, first, second, named, turned) in LOSSES {
+        let loss = Loss {
+            calls,
+            writes,
+            first,
+            second,
+        };
+        lose_power(&rt, rt.alloc(), loss, false, named)?;
+        lose_power(&rt, rt.alloc(), loss, true, turned)?;
+    }
+    Ok(())
 }
+
+/// Names, the blocks of both halves, an attach, what it gives, and how many blocks there are then.
+const NAMES: [(&str, u64, u64, Call, u64, u64); 13] = [
+    ("x", 3, 3, Call::Attach, DONE, 3),
+    ("x", 3, 3, Call::Make(2), DONE, 2),
+    ("x+", 3, 4, Call::Attach, DONE, 2),
+    ("x+", 3, 4, Call::Make(2), DONE, 2),
+    ("x+", 3, 4, Call::Make(3), FAILS, 0),
+    ("x+", 3, 4, Call::Make(u64::MAX), FAILS, 0),
+    ("x+", 0, 4, Call::Attach, DONE, 0),
+    ("x+y", 3, 3, Call::Attach, DONE, 2),
+    ("x+y", 3, 4, Call::Attach, DONE, 0),
+    ("x+y", 0, 0, Call::Attach, DONE, 0),
+    ("x+y", 3, 4, Call::Make(2), DONE, 2),
+    ("x+y+z", 3, 3, Call::Make(1), DONE, 1),
+    ("x+y", 3, 3, Call::Make(u64::MAX), FAILS, 0),
+];
 
 #[test]
 fn names_say_which_halves_are_attached(rt: HostRuntime) -> Result<(), Fail> {
-    for (name, blocks, create, want) in [
-        ("x", (3, 3), None, (true, 3)),
-        ("x", (3, 3), Some(2), (true, 2)),
-        ("x+", (3, 4), None, (true, 2)),
-        ("x+", (3, 4), Some(2), (true, 2)),
-        ("x+", (3, 4), Some(3), (false, 0)),
-        ("x+", (3, 4), Some(u64::MAX), (false, 0)),
-        ("x+", (0, 4), None, (true, 0)),
-        ("x+y", (3, 3), None, (true, 2)),
-        ("x+y", (3, 4), None, (true, 0)),
-        ("x+y", (0, 0), None, (true, 0)),
-        ("x+y", (3, 4), Some(2), (true, 2)),
-        ("x+y+z", (3, 3), Some(1), (true, 1)),
-        ("x+y", (3, 3), Some(u64::MAX), (false, 0)),
-    ] {
-        assert_eq!(rt;
-            attached(rt.alloc(), blocks, name, create)?,
-            want,
-            "{name} {create:?}"
-        );
+    for (name, first, second, call, want, blocks) in NAMES {
+        let first = MemDevice::new(rt.alloc(), first, 9, &[])?;
+        let second = MemDevice::new(rt.alloc(), second, 9, &[])?;
+        let calls = [(call, want), (Call::Blocks, blocks)];
+        run(&rt, name, &mut Mirror::new(first, second), name, &calls);
     }
     Ok(())
 }

@@ -57,18 +57,35 @@ fn calls_of_read<D: Device>(
     device.calls().saturating_sub(before)
 }
 
+/// Writes so many blocks in turn, and returns how many calls each of these writes takes.
+fn calls_of_writes<D: Device>(
+    rt: &impl Abort,
+    device: &mut D,
+    tails: &mut Tails,
+    writes: [usize; 6],
+) -> [u64; 6]
+    requires { AreTails (D.contents device.old) tails.old }
+    ensures { AreTails (D.contents device.new) tails.new }
+{
+    let [a, b, c, d, e, f] = writes;
+    [
+        calls_of_write(rt, device, tails, a),
+        calls_of_write(rt, device, tails, b),
+        calls_of_write(rt, device, tails, c),
+        calls_of_write(rt, device, tails, d),
+        calls_of_write(rt, device, tails, e),
+        calls_of_write(rt, device, tails, f),
+    ]
+}
+
 // All 16 blocks are written at first, and then those that had other bytes than zeros, or get them.
 #[test]
 #[tactic(auto, using(bd_tails::proofs::Known::none_known))]
 fn zeros_are_written_once(rt: HostRuntime) -> Result<(), Fail> {
     let mut device = MemDevice::new(rt.alloc(), image_blocks(SLOTS), 64, &[])?;
     let mut tails = Tails::new(rt.alloc(), SLOTS)?;
-    assert_eq!(rt; calls_of_write(&rt, &mut device, &mut tails, 3), 16);
-    assert_eq!(rt; calls_of_write(&rt, &mut device, &mut tails, 1), 3);
-    assert_eq!(rt; calls_of_write(&rt, &mut device, &mut tails, 2), 2);
-    assert_eq!(rt; calls_of_write(&rt, &mut device, &mut tails, 0), 2);
-    assert_eq!(rt; calls_of_write(&rt, &mut device, &mut tails, 0), 0);
-    assert_eq!(rt; calls_of_write(&rt, &mut device, &mut tails, 15), 15);
+    let calls = calls_of_writes(&rt, &mut device, &mut tails, [3, 1, 2, 0, 0, 15]);
+    assert_eq!(rt; calls, [16, 3, 2, 2, 0, 15]);
     assert_eq!(rt; tails.used(SLOT), 15);
     tails.forget();
     assert_eq!(rt; tails.used(SLOT), 16);
@@ -97,14 +114,15 @@ fn zeros_are_read_once(rt: HostRuntime) -> Result<(), Fail> {
 fn blocks_up_to_the_last_byte_are_used(rt: HostRuntime) -> Result<(), Fail> {
     let mut bytes = [0; SLOT_SIZE];
     assert_eq!(rt; used_blocks(&bytes), 0);
-    bytes[0] = 1;
-    assert_eq!(rt; used_blocks(&bytes), 1);
-    bytes[4_096] = 255;
-    assert_eq!(rt; used_blocks(&bytes), 2);
-    bytes[65_535] = 1;
-    assert_eq!(rt; used_blocks(&bytes), 16);
-    bytes[65_535] = 0;
-    bytes[61_439] = 1;
-    assert_eq!(rt; used_blocks(&bytes), 15);
+    for (place, byte, blocks) in [
+        (0, 1, 1),
+        (4_096, 255, 2),
+        (65_535, 1, 16),
+        (65_535, 0, 2),
+        (61_439, 1, 15),
+    ] {
+        bytes[place] = byte;
+        assert_eq!(rt; used_blocks(&bytes), blocks, "{place}");
+    }
     Ok(())
 }

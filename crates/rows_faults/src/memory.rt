@@ -1,40 +1,141 @@
 //! Want of memory. Where a volume refuses a line for it, each path reads as before, and the same
 //! line is done at the second time. No allocation fails of itself: `rt try --test --fail-alloc N`
-//! makes the Nth one fail. Where it is one of the test's own, the test ends there.
+//! makes the Nth one fail, and no other. Where it is one of the test's own or of the image's making,
+//! the script begins anew, and then each of its lines is done: so no test ends well that sees want
+//! of memory twice.
 
-ghost use Rattle.bd_command.specs.Command.{IsCommand};
-
-use crate::asking::{WRITES, repeated};
-use bd_command::{Command, Listing, Reply};
-use bd_device::{Device, MemDevice};
-use bd_limits::{MAX_SLOTS, MIN_SLOTS};
+use crate::calls::{formatted, keeps, piece_line, repeated, said};
+use bd_device::MemDevice;
 use bd_plain::PlainTree;
-use bd_script::{Line, LineFault, read_line};
-use bd_slots::image_blocks;
-use bd_volume::{Fault, Refused, Volume};
-use std::alloc::{AllocError, Global};
-use std::io::Print;
-use std::process::Abort;
+use bd_volume::Volume;
+use rows_tools::{plain_answer, text_of};
+use std::alloc::Global;
+use std::io::{Eprint, Print};
+use std::process::{Abort, Termination};
+use std::test::Fail;
 
-/// How a volume ended a line.
-#[derive(Clone, Copy, PartialEq, Debug)]
-enum Ended {
-    Done,
-    NoMemory,
-    Full,
+/// How many writes a device has room for.
+const WRITES: usize = 12_000;
+
+/// What a line is answered for which there is no memory.
+const NO_MEMORY: &str = "there is no memory";
+
+/// How the answer ends to a line for which there are too few slots.
+const FULL: &str = " are needed";
+
+/// A part of a script.
+#[derive(Clone, Copy)]
+enum Part {
+    /// Lines that are done. `N` and `M` stand for two names of 255 bytes.
+    Lines(&'static [&'static str]),
+    /// So many pieces of a file, which are written.
+    Pieces(&'static str, u32),
+    /// Pieces of a file, which are written until there are too few slots.
+    Fill(&'static str),
+    /// The questions.
+    Ask,
 }
+
+/// A script on an image of so many slots, the paths that are asked, and how many bytes of each.
+struct Script {
+    slots: u32,
+    parts: &'static [Part],
+    paths: &'static [&'static str],
+    length: u32,
+}
+
+/// A file is cloned with its directory, both are written, and the clone is cloned. More of it is
+/// written than waits in the root.
+const CLONES: Script = Script {
+    slots: 80,
+    parts: &[
+        Part::Lines(&["mkdir /d", "create /d/f"]),
+        Part::Pieces("/d/f", 12),
+        Part::Lines(&[
+            "clone /d /e",
+            "write /e/f 5000 aabb",
+            "write /d/f 1 ff",
+            "checkpoint",
+            "clone /e /d/c",
+            "write /d/c/f 26000 99",
+            "truncate /e/f 3",
+            "rename /d/c /k",
+            "chmod /k/f 0644",
+            "create /e/g",
+            "sync",
+            "remove /d",
+            "clone /k /e/d",
+            "write /e/d/f 0 77",
+            "remove /k/f",
+            "reclaim",
+            "mkdir /d",
+            "clone /e/d/f /d/c",
+            "sync",
+        ]),
+        Part::Ask,
+    ],
+    paths: &[
+        "/", "/d", "/d/f", "/d/c", "/d/c/f", "/e", "/e/f", "/e/g", "/e/d", "/e/d/f", "/k", "/k/f",
+    ],
+    length: 28_672,
+};
+
+/// A file is written until no slot is free, and its slots are reclaimed.
+const FILLED: Script = Script {
+    slots: 24,
+    parts: &[
+        Part::Lines(&["create /g", "write /g 0 0102", "mkdir /d", "create /d/f"]),
+        Part::Fill("/d/f"),
+        Part::Ask,
+        Part::Lines(&[
+            "remove /d",
+            "reclaim",
+            "checkpoint",
+            "create /h",
+            "write /h 0 0304",
+            "sync",
+        ]),
+        Part::Ask,
+    ],
+    paths: &["/", "/d", "/g", "/h", "/d/f"],
+    length: 262_144,
+};
+
+/// A directory is renamed in which a path has the greatest length.
+const LONG: Script = Script {
+    slots: 24,
+    parts: &[
+        Part::Lines(&[
+            "mkdir /N",
+            "create /N/N",
+            "write /N/N 3000 0102",
+            "checkpoint",
+            "rename /N /M",
+            "write /M/N 0 aa",
+            "rename /M/N /M/M",
+            "sync",
+            "clone /M /N",
+            "truncate /N/M 1",
+            "remove /M",
+            "reclaim",
+        ]),
+        Part::Ask,
+    ],
+    paths: &["/", "/N", "/N/N", "/N/M", "/M", "/M/N", "/M/M"],
+    length: 4_096,
+};
 
 /// A volume and the plain program after the same lines, what is asked of both, and how many lines
 /// were refused for want of memory.
-struct Pair<'a> {
+struct Pair {
     volume: Volume<MemDevice>,
     tree: PlainTree,
-    questions: &'a [String],
+    questions: Vec<String>,
     refused: u32,
 }
 
 // Written out, so that a drop is one call.
-impl Drop for Pair<'_> {
+impl Drop for Pair {
     fn drop(self) {
         let Pair {
             volume: _,
@@ -45,394 +146,178 @@ impl Drop for Pair<'_> {
     }
 }
 
-/// A volume on a new image of so many slots.
-fn formatted(rt: &impl Abort, alloc: Global, slots: u32) -> Result<Volume<MemDevice>, AllocError> {
-    let device = MemDevice::new(alloc, image_blocks(slots), WRITES, &[])?;
-    assert!(rt; slots >= MIN_SLOTS && slots <= MAX_SLOTS && device.blocks() == image_blocks(slots));
-    match Volume::format(alloc, device, slots) {
-        Ok(volume) => Ok(volume),
-        Err(
-            Refused {
-                fault: Fault::NoMemory,
-                ..
-            },
-        ) => Err(AllocError),
-        Err(Refused { fault, .. }) => panic!(rt; "{fault}"),
-    }
-}
-
-/// How a line ended that had this fault.
-fn ended_by(rt: &impl Abort, fault: Fault) -> Ended {
-    match fault {
-        Fault::NoMemory => Ended::NoMemory,
-        Fault::Full { .. } => Ended::Full,
-        Fault::Device | Fault::Damaged { .. } | Fault::Worn(_) | Fault::Stopped { .. } => {
-            panic!(rt; "{fault}")
-        }
-    }
-}
-
-/// How a line ended that answers nothing more.
-fn ended_as(rt: &impl Abort, done: Result<(), Fault>) -> Ended {
-    match done {
-        Ok(()) => Ended::Done,
-        Err(fault) => ended_by(rt, fault),
-    }
-}
-
-/// Whether two listings are the same.
-fn are_same_names(found: &Listing, want: &Listing) -> bool {
-    if found.more != want.more || found.names.len() != want.names.len() {
-        return false;
-    }
-    for (one, other) in found.names.as_slice().iter().zip(want.names.as_slice()) {
-        if one.is_dir != other.is_dir || one.name.as_bytes() != other.name.as_bytes() {
-            return false;
-        }
-    }
-    true
-}
-
-/// Whether two replies are the same.
-fn are_same(found: &Reply, want: &Reply) -> bool {
-    match (found, want) {
-        (Reply::Done, Reply::Done) => true,
-        (Reply::Bytes(found), Reply::Bytes(want)) => found == want,
-        (Reply::Dir(found), Reply::Dir(want)) => found == want,
-        (Reply::File(found, mode), Reply::File(want, other)) => found == want && mode == other,
-        (Reply::Names(found), Reply::Names(want)) => are_same_names(found, want),
-        (Reply::Refused(found), Reply::Refused(want)) => found == want,
-        _ => false,
-    }
-}
-
-/// Whether a reply to a command is the one that is wanted.
-fn is_wanted(rt: &impl Abort, command: &Command, found: &Reply, want: &Reply) {
-    assert!(rt; are_same(found, want), "{command:?}: {found:?}, {want:?}");
-}
-
-impl<'a> Pair<'a> {
-    /// A volume on a new image of so many slots.
-    fn new(
-        rt: &impl Abort,
-        alloc: Global,
-        slots: u32,
-        questions: &'a [String],
-    ) -> Result<Pair<'a>, AllocError> {
-        Ok(Pair {
-            tree: PlainTree::new(alloc)?,
-            volume: formatted(rt, alloc, slots)?,
-            questions,
-            refused: 0,
-        })
-    }
-
-    /// Whether the plain program replies so to a command.
-    fn is_right(
-        &mut self,
-        rt: &impl Abort,
-        alloc: Global,
-        command: &Command,
-        found: &Reply,
-    ) -> Result<Ended, AllocError> {
-        match self.tree.step(alloc, command) {
-            Ok(want) => {
-                is_wanted(rt, command, found, &want);
-                Ok(Ended::Done)
-            }
-            Err(AllocError) => Err(AllocError),
-        }
-    }
-
-    /// Executes a command, which the plain program does where the volume replies.
-    fn execute(
-        &mut self,
-        rt: &impl Abort,
-        alloc: Global,
-        command: &Command,
-    ) -> Result<Ended, AllocError>
-        requires { IsCommand command.now }
-    {
-        match self.volume.do_command(command) {
-            Ok(reply) => self.is_right(rt, alloc, command, &reply),
-            Err(fault) => Ok(ended_by(rt, fault)),
-        }
-    }
-
-    /// Executes a line once.
-    fn once(&mut self, rt: &impl Abort, alloc: Global, line: &str) -> Result<Ended, AllocError> {
-        match read_line(alloc, line.as_bytes()) {
-            Ok(Line::Run(command)) => self.execute(rt, alloc, &command),
-            Ok(Line::Sync) => Ok(ended_as(rt, self.volume.sync())),
-            Ok(Line::Checkpoint) => Ok(ended_as(rt, self.volume.checkpoint())),
-            Ok(Line::Reclaim) => Ok(ended_as(rt, self.volume.reclaim())),
-            Ok(Line::Df) | Ok(Line::Walk) | Ok(Line::Stop) => panic!(rt; "no such line"),
-            Err(LineFault::NoMemory) => Err(AllocError),
-            Err(LineFault::BadLine) | Err(LineFault::BadPath) => panic!(rt; "no such line"),
-        }
-    }
-
-    /// Whether each path reads as the plain program has it, after a line that was refused.
-    fn is_as_before(
-        &mut self,
-        rt: &impl Abort,
-        alloc: Global,
-        line: &str,
-    ) -> Result<(), AllocError> {
-        self.refused = self.refused.saturating_add(1);
-        for question in self.questions {
-            let ended = self.once(rt, alloc, question)?;
-            assert_eq!(rt; ended, Ended::Done, "{line}: {question}");
-        }
-        Ok(())
-    }
-
-    /// Executes a line, once more where it is refused for want of memory.
-    fn line(&mut self, rt: &impl Abort, alloc: Global, line: &str) -> Result<Ended, AllocError> {
-        let ended = self.once(rt, alloc, line)?;
-        if ended != Ended::NoMemory {
-            return Ok(ended);
-        }
-        self.is_as_before(rt, alloc, line)?;
-        self.once(rt, alloc, line)
-    }
-
-    /// Executes a line, which is done.
-    fn done(&mut self, rt: &impl Abort, alloc: Global, line: &str) -> Result<(), AllocError> {
-        let ended = self.line(rt, alloc, line)?;
-        assert_eq!(rt; ended, Ended::Done, "{line}");
-        Ok(())
-    }
-
-    /// Executes lines, each of which is done.
-    fn lines(&mut self, rt: &impl Abort, alloc: Global, lines: &[&str]) -> Result<(), AllocError> {
-        for line in lines {
-            self.done(rt, alloc, line)?;
-        }
-        Ok(())
-    }
-
-    /// Writes pieces of 2,048 bytes that follow each other to a file, until one isn't done or there
-    /// are so many.
-    fn pieces(
-        &mut self,
-        rt: &impl Abort,
-        alloc: Global,
-        path: &str,
-        count: u32,
-    ) -> Result<Ended, AllocError> {
-        let digits = repeated(alloc, "5a", 2_046)?;
-        for at in 0..count {
-            let off = at.saturating_mul(2_048);
-            let line = format!(in alloc; "write {path} {off} {at:04x}{digits}")?;
-            let ended = self.line(rt, alloc, &line)?;
-            if ended != Ended::Done {
-                return Ok(ended);
-            }
-        }
-        Ok(Ended::Done)
-    }
-
-    /// Asks all at the end. How many lines were refused for want of memory.
-    fn end(&mut self, rt: &impl Abort, alloc: Global) -> Result<u32, AllocError> {
-        for question in self.questions {
-            self.done(rt, alloc, question)?;
-        }
-        Ok(self.refused)
-    }
-}
-
-/// The questions on a path: what stands there, its names, and the bytes before `length`.
-fn ask_of(
-    alloc: Global,
-    questions: &mut Vec<String>,
-    path: &str,
-    length: u32,
-) -> Result<(), AllocError> {
-    for verb in ["stat", "list"] {
-        questions.push(format!(in alloc; "{verb} {path}")?)?;
-    }
-    for off in (0..length).step_by(4_096) {
-        questions.push(format!(in alloc; "read {path} {off} 4096")?)?;
-    }
-    Ok(())
-}
-
-/// The questions on paths.
-fn questions(alloc: Global, paths: &[&str], length: u32) -> Result<Vec<String>, AllocError> {
-    let mut all = Vec::new(alloc);
-    for path in paths {
-        ask_of(alloc, &mut all, path, length)?;
-    }
-    Ok(all)
-}
-
-/// What a test says at its end.
-fn told(ended: Result<u32, AllocError>) -> &'static str {
-    match ended {
-        Ok(0) => "no line was refused",
-        Ok(_) => "a refused line was done at the second time",
-        Err(AllocError) => "the test had no memory",
-    }
-}
-
-/// How many pieces the file has that is cloned: more than wait in the root.
-const PIECES: u32 = 12;
-
-/// The lines after the pieces of `/d/f`.
-const CLONES: &[&str] = &[
-    "clone /d /e",
-    "write /e/f 5000 aabb",
-    "write /d/f 1 ff",
-    "checkpoint",
-    "clone /e /d/c",
-    "write /d/c/f 26000 99",
-    "truncate /e/f 3",
-    "rename /d/c /k",
-    "chmod /k/f 0644",
-    "create /e/g",
-    "sync",
-    "remove /d",
-    "clone /k /e/d",
-    "write /e/d/f 0 77",
-    "remove /k/f",
-    "reclaim",
-    "mkdir /d",
-    "clone /e/d/f /d/c",
-    "sync",
-];
-
-/// The paths of these lines.
-const CLONED: &[&str] = &[
-    "/", "/d", "/d/f", "/d/c", "/d/c/f", "/e", "/e/f", "/e/g", "/e/d", "/e/d/f", "/k", "/k/f",
-];
-
-/// A file is cloned with its directory, both are written, and the clone is cloned.
-fn clone_all(rt: &impl Abort, alloc: Global, pair: &mut Pair<'_>) -> Result<u32, AllocError> {
-    pair.lines(rt, alloc, &["mkdir /d", "create /d/f"])?;
-    let ended = pair.pieces(rt, alloc, "/d/f", PIECES)?;
-    assert_eq!(rt; ended, Ended::Done);
-    pair.lines(rt, alloc, CLONES)?;
-    pair.end(rt, alloc)
-}
-
-/// How many lines were refused.
-fn clones(rt: &impl Abort, alloc: Global) -> Result<u32, AllocError> {
-    let questions = questions(alloc, CLONED, 28_672)?;
-    let mut pair = Pair::new(rt, alloc, 80, &questions)?;
-    clone_all(rt, alloc, &mut pair)
-}
-
-#[test]
-fn clones_read_as_before(rt: HostRuntime) {
-    let _ = rt.println(told(clones(&rt, rt.alloc())));
-}
-
-/// The lines after a file that found no slot free.
-const RECLAIMED: &[&str] = &[
-    "remove /d",
-    "reclaim",
-    "checkpoint",
-    "create /h",
-    "write /h 0 0304",
-    "sync",
-];
-
-/// A file is written until no slot is free, and its slots are reclaimed.
-fn fill(rt: &impl Abort, alloc: Global, pair: &mut Pair<'_>) -> Result<u32, AllocError> {
-    pair.lines(
-        rt,
-        alloc,
-        &["create /g", "write /g 0 0102", "mkdir /d", "create /d/f"],
-    )?;
-    let ended = pair.pieces(rt, alloc, "/d/f", 1_000)?;
-    assert_eq!(rt; ended, Ended::Full);
-    let _ = pair.end(rt, alloc)?;
-    pair.lines(rt, alloc, RECLAIMED)?;
-    pair.end(rt, alloc)
-}
-
-/// How many lines were refused.
-fn full(rt: &impl Abort, alloc: Global) -> Result<u32, AllocError> {
-    let mut questions = questions(alloc, &["/", "/d", "/g", "/h"], 1)?;
-    ask_of(alloc, &mut questions, "/d/f", 262_144)?;
-    let mut pair = Pair::new(rt, alloc, 24, &questions)?;
-    fill(rt, alloc, &mut pair)
-}
-
-#[test]
-fn a_full_image_reads_as_before(rt: HostRuntime) {
-    let _ = rt.println(told(full(&rt, rt.alloc())));
-}
-
-/// The lines on paths of the greatest length, and the paths: `N` and `M` stand for two names of 255
-/// bytes.
-const LONG: &[&str] = &[
-    "mkdir /N",
-    "create /N/N",
-    "write /N/N 3000 0102",
-    "checkpoint",
-    "rename /N /M",
-    "write /M/N 0 aa",
-    "rename /M/N /M/M",
-    "sync",
-    "clone /M /N",
-    "truncate /N/M 1",
-    "remove /M",
-    "reclaim",
-];
-
-const LONG_PATHS: &[&str] = &["/", "/N", "/N/N", "/N/M", "/M", "/M/N", "/M/M"];
-
-/// A text in which `N` and `M` stand for these.
-fn long_text(alloc: Global, text: &str, one: &str, other: &str) -> Result<String, AllocError> {
+/// A line in which `N` and `M` stand for names of 255 bytes.
+fn with_names(alloc: Global, line: &str) -> Result<String, Fail> {
     let mut long = String::new(alloc);
-    for letter in text.chars() {
+    for letter in line.chars() {
         match letter {
-            'N' => long.push_str(one)?,
-            'M' => long.push_str(other)?,
+            'N' => long.push_str(&repeated(alloc, "n", 255)?)?,
+            'M' => long.push_str(&repeated(alloc, "m", 255)?)?,
             _ => long.push(letter)?,
         }
     }
     Ok(long)
 }
 
-/// These texts with names of 255 bytes.
-fn long_texts(alloc: Global, texts: &[&str]) -> Result<Vec<String>, AllocError> {
-    let one = repeated(alloc, "n", 255)?;
-    let other = repeated(alloc, "m", 255)?;
+/// Adds the questions on a path: what stands there, its names, and the bytes before `length`.
+fn ask_of(alloc: Global, into: &mut Vec<String>, path: &str, length: u32) -> Result<(), Fail> {
+    let path = with_names(alloc, path)?;
+    into.push(format!(in alloc; "stat {path}")?)?;
+    into.push(format!(in alloc; "list {path}")?)?;
+    for off in (0..length).step_by(4_096) {
+        into.push(format!(in alloc; "read {path} {off} 4096")?)?;
+    }
+    Ok(())
+}
+
+/// The questions of a script.
+fn questions(alloc: Global, script: &Script) -> Result<Vec<String>, Fail> {
     let mut all = Vec::new(alloc);
-    for text in texts {
-        all.push(long_text(alloc, text, &one, &other)?)?;
+    for path in script.paths {
+        ask_of(alloc, &mut all, path, script.length)?;
     }
     Ok(all)
 }
 
-/// The questions on the long paths.
-fn long_questions(alloc: Global) -> Result<Vec<String>, AllocError> {
-    let mut all = Vec::new(alloc);
-    for path in &long_texts(alloc, LONG_PATHS)? {
-        ask_of(alloc, &mut all, path, 4_096)?;
+/// What the plain program answers to a line.
+fn wanted(alloc: Global, tree: &mut PlainTree, line: &str) -> Result<String, Fail> {
+    if keeps(line) {
+        return Ok(String::from_str(alloc, "ok")?);
     }
-    Ok(all)
+    let want = plain_answer(alloc, tree, line)?;
+    text_of(alloc, &want)
 }
 
-/// A directory is renamed in which a path has the greatest length.
-fn rename_long(rt: &impl Abort, alloc: Global, pair: &mut Pair<'_>) -> Result<u32, AllocError> {
-    for line in &long_texts(alloc, LONG)? {
-        pair.done(rt, alloc, line)?;
+impl Pair {
+    /// Before a script.
+    fn new(rt: &impl Abort, alloc: Global, script: &Script) -> Result<Pair, Fail> {
+        Ok(Pair {
+            questions: questions(alloc, script)?,
+            tree: PlainTree::new(alloc)?,
+            volume: formatted(rt, alloc, script.slots, WRITES, u64::MAX)?,
+            refused: 0,
+        })
     }
-    pair.end(rt, alloc)
+
+    /// Whether both answer the questions alike.
+    fn ask(&mut self, rt: &impl Abort, alloc: Global, line: &str) -> Result<(), Fail> {
+        for question in &self.questions {
+            let found = said(alloc, &mut self.volume, question)?;
+            let want = wanted(alloc, &mut self.tree, question)?;
+            assert_eq!(rt; found.as_str(), want.as_str(), "{line}: {question}");
+        }
+        Ok(())
+    }
+
+    /// What the volume answers to a line, at the second time where it is refused for want of memory.
+    fn answer(&mut self, rt: &impl Abort, alloc: Global, line: &str) -> Result<String, Fail> {
+        let found = said(alloc, &mut self.volume, line)?;
+        if found.as_str() != NO_MEMORY {
+            return Ok(found);
+        }
+        self.refused = self.refused.saturating_add(1);
+        self.ask(rt, alloc, line)?;
+        said(alloc, &mut self.volume, line)
+    }
+
+    /// Whether a line is done, as the plain program does it, and not for want of slots.
+    fn line(&mut self, rt: &impl Abort, alloc: Global, line: &str) -> Result<bool, Fail> {
+        let found = self.answer(rt, alloc, line)?;
+        if found.as_str().ends_with(FULL) {
+            return Ok(false);
+        }
+        let want = wanted(alloc, &mut self.tree, line)?;
+        assert_eq!(rt; found.as_str(), want.as_str(), "{line}");
+        Ok(true)
+    }
+
+    /// Executes lines, each of which is done.
+    fn lines(&mut self, rt: &impl Abort, alloc: Global, lines: &[&str]) -> Result<(), Fail> {
+        for line in lines {
+            let line = with_names(alloc, line)?;
+            let is_done = self.line(rt, alloc, &line)?;
+            assert!(rt; is_done, "{line}");
+        }
+        Ok(())
+    }
+
+    /// Whether so many pieces are written to a file.
+    fn pieces(
+        &mut self,
+        rt: &impl Abort,
+        alloc: Global,
+        path: &str,
+        count: u32,
+    ) -> Result<bool, Fail> {
+        for at in 0..count {
+            let line = piece_line(alloc, path, at)?;
+            if !self.line(rt, alloc, &line)? {
+                return Ok(false);
+            }
+        }
+        Ok(true)
+    }
+
+    /// Does a part of a script.
+    fn part(&mut self, rt: &impl Abort, alloc: Global, part: Part) -> Result<bool, Fail> {
+        match part {
+            Part::Lines(lines) => {
+                self.lines(rt, alloc, lines)?;
+                Ok(true)
+            }
+            Part::Pieces(path, count) => self.pieces(rt, alloc, path, count),
+            Part::Fill(path) => Ok(!self.pieces(rt, alloc, path, 1_000)?),
+            Part::Ask => {
+                self.ask(rt, alloc, "the end")?;
+                Ok(true)
+            }
+        }
+    }
+
+    /// Does a script.
+    fn parts(&mut self, rt: &impl Abort, alloc: Global, parts: &[Part]) -> Result<(), Fail> {
+        for (index, part) in parts.iter().enumerate() {
+            let is_done = self.part(rt, alloc, *part)?;
+            assert!(rt; is_done, "part {index}");
+        }
+        Ok(())
+    }
 }
 
-/// How many lines were refused.
-fn long_paths(rt: &impl Abort, alloc: Global) -> Result<u32, AllocError> {
-    let questions = long_questions(alloc)?;
-    let mut pair = Pair::new(rt, alloc, 24, &questions)?;
-    rename_long(rt, alloc, &mut pair)
+/// Does a script on a new image, and says how many lines were refused for want of memory.
+fn refused(rt: &impl Abort, alloc: Global, script: &Script) -> Result<u32, Fail> {
+    let mut pair = Pair::new(rt, alloc, script)?;
+    pair.parts(rt, alloc, script.parts)?;
+    Ok(pair.refused)
+}
+
+/// Does a script, once more where the test had no memory, which is told. Says what came.
+fn told<R: Abort + Eprint>(rt: &R, alloc: Global, script: &Script) -> Result<&'static str, Fail> {
+    match refused(rt, alloc, script) {
+        Ok(0) => Ok("no line was refused"),
+        Ok(_) => Ok("a refused line was done at the second time"),
+        Err(fail) => {
+            let _ = Err::<(), Fail>(fail).report(rt);
+            let _ = refused(rt, alloc, script)?;
+            Ok("the test had no memory, and at the second time all was done")
+        }
+    }
 }
 
 #[test]
-fn long_paths_read_as_before(rt: HostRuntime) {
-    let _ = rt.println(told(long_paths(&rt, rt.alloc())));
+fn clones_read_as_before(rt: HostRuntime) -> Result<(), Fail> {
+    let _ = rt.println(told(&rt, rt.alloc(), &CLONES)?);
+    Ok(())
+}
+
+#[test]
+fn a_full_image_reads_as_before(rt: HostRuntime) -> Result<(), Fail> {
+    let _ = rt.println(told(&rt, rt.alloc(), &FILLED)?);
+    Ok(())
+}
+
+#[test]
+fn long_paths_read_as_before(rt: HostRuntime) -> Result<(), Fail> {
+    let _ = rt.println(told(&rt, rt.alloc(), &LONG)?);
+    Ok(())
 }

@@ -1,22 +1,19 @@
 //! A failed write stops a volume.
 
-use crate::asking::{gives, on_new_image};
-use bd_device::{Device, FaultyDevice, MemDevice};
+use crate::needs::{SLOTS, need_of, on_new_image};
+use bd_device::{FaultyDevice, MemDevice};
 use bd_slots::image_blocks;
 use bd_volume::{Fault, Volume};
 use std::alloc::Global;
 use std::process::Abort;
 use std::test::Fail;
 
-/// The slots of the images.
-const SLOTS: u32 = 24;
-
 /// A volume on a new image, whose device fails at a call from there on.
 fn failing(alloc: Global, call: u64) -> Result<Volume<FaultyDevice<MemDevice>>, Fail> {
     let device = MemDevice::new(alloc, image_blocks(SLOTS), 2_000, &[])?;
     let mut fail = Vec::new(alloc);
     fail.push(call)?;
-    on_new_image(alloc, FaultyDevice::new(device, fail), SLOTS)
+    on_new_image(alloc, FaultyDevice::new(device, fail))
 }
 
 /// How many calls a format makes.
@@ -31,7 +28,7 @@ fn is_stopped_at(
     volume: &mut Volume<FaultyDevice<MemDevice>>,
     call: u64,
 ) -> Result<(), Fail> {
-    gives(rt, alloc, volume, "mkdir /a", "ok")?;
+    let _ = need_of(alloc, volume, "mkdir /a")?;
     assert_eq!(rt; volume.checkpoint(), Err(Fault::Device));
     assert_eq!(rt; volume.calls(), call);
     let stopped = Err(Fault::Stopped { call });

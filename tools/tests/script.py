@@ -1,0 +1,80 @@
+"""Lines of scripts beside the plain map."""
+import copy
+import os
+import re
+from concurrent.futures import ThreadPoolExecutor
+
+from plain import PlainMap
+
+BLOCK_SIZE = 4_096
+
+KEEPING = ("sync", "checkpoint", "reclaim")
+
+BRACES = re.compile(r"\{([0-9a-f]+)\*(\d+)\}")
+
+
+def expanded(line):
+    """A line with what its braces stand for."""
+    return BRACES.sub(lambda found: found[1] * int(found[2]), line)
+
+
+class Plain:
+    """The plain map, and how many commands it has accepted."""
+
+    def __init__(self):
+        self.tree, self.accepted = PlainMap(), 0
+
+    def reply(self, line):
+        if line in KEEPING:
+            return "ok"
+        reply = self.tree.reply(expanded(line).encode()).decode()
+        if reply == "ok" and line.split(" ")[0] not in ("read", "stat", "list"):
+            self.accepted += 1
+        return reply
+
+
+class Lines:
+    """Lines, and what they are answered."""
+
+    def __init__(self, lines, before=None):
+        self.lines = lines
+        self.plain = copy.deepcopy(before) if before else Plain()
+        self.replies = [self.plain.reply(line) for line in lines]
+
+    def expanded(self):
+        return [expanded(line) for line in self.lines]
+
+    def after(self):
+        """The plain map after the lines."""
+        return copy.deepcopy(self.plain)
+
+
+def questions(paths, reads=("0 4096",)):
+    """The questions on paths: what stands there, its names, and some of its bytes."""
+    return [f"{verb} {path}{rest}" for path in paths
+            for verb, rest in [("stat", ""), ("list", "")] + [("read", " " + words) for words in reads]]
+
+
+def compare(rows, text, report):
+    """Runs rows, and reports those that pass and each line that differs."""
+    passed, differing = rows.differ(text)
+    for _ in range(passed):
+        report(True, "")
+    for line in differing:
+        report(False, line)
+
+
+def shown(rows, begun, parts):
+    """The calls of each of these parts of rows, after the same rows that begin a device and keep it. Each processor
+    runs its share of the parts."""
+    count = max(1, min(os.cpu_count() or 1, len(parts)))
+    shares = [parts[len(parts) * at // count : len(parts) * (at + 1) // count] for at in range(count)]
+
+    def show(share):
+        calls = rows.show("\n".join(begun + [line for part in share for line in part]) + "\n")
+        wanted = sum(line == "-- run" for part in share for line in part)
+        last = iter(calls[len(calls) - wanted :])
+        return [[next(last) for line in part if line == "-- run"] for part in share]
+
+    with ThreadPoolExecutor(count) as pool:
+        return [calls for share in pool.map(show, shares) for calls in share]
