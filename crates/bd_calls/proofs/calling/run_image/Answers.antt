@@ -2,7 +2,7 @@
 use Rattle.std.proofs.Common.{refl, sym, ◌∙◌}
 use Rattle.bd_calls.proofs.Runs.{counted_once, ran_detached, ran_attached}
 use Rattle.bd_shell.proofs.Surviving.{on_ok_of, on_err_of}
-use Rattle.bd_calls.proofs.run.run_image.Goals as goal
+use Rattle.bd_calls.proofs.calling.run_image.Goals as goal
 
 pub returns-then-is_err-clause-ran : goal.returns-then-is_err-clause-ran
 returns-then-is_err-clause-ran g c =

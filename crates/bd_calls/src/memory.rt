@@ -4,7 +4,7 @@ ghost use Rattle.bd_shell.specs.Fault.{faults};
 ghost use Rattle.bd_words.specs.Words.{call_of};
 ghost use Rattle.bd_calls.specs.Run.{EndsUncalled, ends, disk_in_memory, Does, Uses, WritesLast, seen_in_memory, usage_line};
 
-use crate::run::run;
+use crate::calling::run;
 use bd_device::MemDevice;
 use bd_io::{MemSink, MemSource};
 use bd_limits::MAX_PIECE;

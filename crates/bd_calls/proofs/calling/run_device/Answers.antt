@@ -8,7 +8,7 @@ use Rattle.bd_calls.specs.Run.{disk, ends, Ran}
 use Rattle.bd_shell.specs.Session.{end_of}
 use Rattle.bd_shell.specs.Shell.{acks_in, device_in}
 use Rattle.bd_calls.proofs.Runs.{as_last, names_damage, ran_session, ran_unstarted, ok_of_none, same_tail}
-use Rattle.bd_calls.proofs.run.run_device.Goals as goal
+use Rattle.bd_calls.proofs.calling.run_device.Goals as goal
 
 pub returns-in-Err-clause-ran : goal.returns-in-Err-clause-ran
 returns-in-Err-clause-ran g c =

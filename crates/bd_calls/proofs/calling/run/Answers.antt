@@ -11,7 +11,7 @@ use Rattle.bd_shell.proofs.Moving.{is_caused_beside}
 use Rattle.bd_calls.proofs.Runs.{of_call, ended_well, ok_of_none, well_counts, run_complete, cause_of}
 use Rattle.bd_calls.proofs.Fills.{fill_complete, fill_device, fill_short, told_done, told_well}
 use Rattle.bd_calls.proofs.Unread.{complete_unread, does_unread, for_some, makes_unread, never_refused, none_is, of_none, some_call, uses_unread}
-use Rattle.bd_calls.proofs.run.run.Goals as goal
+use Rattle.bd_calls.proofs.calling.run.Goals as goal
 
 pub returns-in-Ok-Run-clause-faultless : goal.returns-in-Ok-Run-clause-faultless
 returns-in-Ok-Run-clause-faultless g c =
