@@ -22,7 +22,7 @@ SHORT = Lines([
     "rename /b /c",
     "reclaim",
     "remove /c",
-    "sync",
+    "stop",
 ])
 
 SHORT_QUESTIONS = questions(["/", "/a", "/a/f", "/b", "/b/f", "/c", "/c/f"])
@@ -110,9 +110,12 @@ class Script:
         last = rows.show("\n".join(self.begun() + self.run()) + "\n")[-1]
         return last.calls if last.status == 0 and last.written == self.lines.replies else None
 
-    def wrong(self, stopped, asked):
-        """What is wrong with a run that was stopped, and with the one after it, if anything is."""
+    def wrong(self, stopped, asked, call):
+        """What is wrong with a run that was stopped at this call of the device, after which it makes none, and with the
+        run after it, if anything is."""
         replies = stopped.written[:-1]
+        if stopped.calls != call:
+            return f"{stopped.calls} calls"
         if stopped.status != 3 or stopped.written[-1:] != [FAULT]:
             return f"status {stopped.status}, {stopped.written[-1:]}"
         if replies != self.lines.replies[: len(replies)]:
@@ -133,7 +136,7 @@ class Script:
         they were stopped."""
         calls = shown(rows, self.begun(), [self.run(*how) + self.ask() for how in hows])
         for how, (stopped, asked) in zip(hows, calls):
-            wrong = self.wrong(stopped, asked)
+            wrong = self.wrong(stopped, asked, int(how[0].split(" ")[2]))
             report(wrong is None, f"{self.label}: {how}: {wrong}")
         return {len(stopped.written) - 1 for stopped, _asked in calls}
 

@@ -8,7 +8,7 @@ from plain import PlainMap
 
 BLOCK_SIZE = 4_096
 
-KEEPING = ("sync", "checkpoint", "reclaim")
+KEEPING = ("sync", "checkpoint", "reclaim", "stop")
 
 BRACES = re.compile(r"\{([0-9a-f]+)\*(\d+)\}")
 

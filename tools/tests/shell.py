@@ -13,13 +13,14 @@ from plain import PlainMap
 
 # A file and its clone are written apart, and all is made durable.
 SCRIPT = [
-    "create /a", "write /a 0 01", "clone /a /b", "write /a 0 02", "write /b 0 03",
+    "create /a", "write /a 0 01", "clone /a /b", "read /b 0 1", "write /a 0 02", "write /b 0 03",
     "read /a 0 1", "read /b 0 1", "sync", "checkpoint", "reclaim", "stop",
 ]
 ACCEPTED = 5
-SYNCED = 8
+SYNCED = 9
 QUESTIONS = ["stat /a", "read /a 0 9", "stat /b", "read /b 0 9"]
 TEARS = ["old", "new", "255"]
+TOOLS = Path(__file__).resolve().parent.parent
 
 
 def replies(lines, begun=()):
@@ -65,42 +66,72 @@ def each_call(rows, calls, directives):
     return [(ran, then) for ran, then in rows.show_each(texts)]
 
 
+def is_last(ran):
+    """Whether a run made no call of the device after the one that its label names, which failed."""
+    return ran.label == f"call {ran.calls}"
+
+
 def failing_device(rows, report):
     """Each failing call of the device, and a device that stops at each call."""
     whole = rows.show(run_with("no call fails", [], "old"))[0]
     report(whole.written == REPLIES and whole.status == 0 and whole.calls > 100, "the script without a failing call")
     for ran, then in each_call(rows, whole.calls, lambda call: [f"fail {call}"]):
-        is_right = ran.status == 3 and ran.faults == 1 and is_front(ran, then, ["fault device"], 0)
-        report(is_right, f"failing device: {ran.label}: {ran.status} {ran.written} {then.written}")
+        is_right = ran.status == 3 and ran.faults == 1 and is_front(ran, then, ["fault device"], 0) and is_last(ran)
+        report(is_right, f"failing device: {ran.label}: {ran.status} {ran.calls} {ran.written} {then.written}")
     for ran, then in each_call(rows, whole.calls, lambda call: [f"fuse {call} {TEARS[call % 3]}"]):
-        is_right = ran.status == 3 and is_front(ran, then, ["fault device"], 0)
-        report(is_right, f"stopped device: {ran.label}: {ran.status} {ran.written} {then.written}")
+        is_right = ran.status == 3 and is_front(ran, then, ["fault device"], 0) and is_last(ran)
+        report(is_right, f"stopped device: {ran.label}: {ran.status} {ran.calls} {ran.written} {then.written}")
 
 
 def failing_takes(rows, report):
-    """The script has 117 bytes, which are 17 takes of up to seven; after `stop` there is none."""
-    text = "".join(run_with(f"take {take}", ["piece 7", f"take {take}"], "old") for take in range(1, 21))
+    """The script has 129 bytes, which are 19 takes of up to seven; after `stop` there is none."""
+    text = "".join(run_with(f"take {take}", ["piece 7", f"take {take}"], "old") for take in range(1, 23))
     for take, (ran, then) in enumerate(pairs(rows.show(text)), 1):
-        last, status = (["fault source"], 5) if take <= 17 else ([], 0)
+        last, status = (["fault source"], 5) if take <= 19 else ([], 0)
         report(ran.status == status and is_front(ran, then, last, 0), f"failing take {take}: {ran.written} {then.written}")
 
 
 def failing_puts(rows, report):
-    """Each of the eleven replies is one put; the command whose reply isn't taken was executed."""
-    text = "".join(run_with(f"put {put}", [f"put {put}"], "old") for put in range(1, 14))
+    """Each of the twelve replies is one put; the command whose reply isn't taken was executed."""
+    text = "".join(run_with(f"put {put}", [f"put {put}"], "old") for put in range(1, 15))
     for put, (ran, then) in enumerate(pairs(rows.show(text)), 1):
-        more, status = (1, 9) if put <= 11 else (0, 0)
+        more, status = (1, 9) if put <= 12 else (0, 0)
         report(ran.status == status and is_front(ran, then, [], more), f"failing put {put}: {ran.written} {then.written}")
 
 
-def cut_scripts(rows, report):
+# A write over the border of a block, after zeros.
+OVER_A_BORDER = ["create /f", "write /f 1022 616263", "stat /f", "read /f 1020 5", "read /f 1025 9"]
+
+
+def cut_scripts(rows, report, lines):
     """A script that is cut off after each byte gives no fault, and its whole lines their replies."""
-    script = "".join(line + "\n" for line in SCRIPT)
-    shown = rows.show("".join(f"# cut {cut}\n-- run\n-- cut {cut}\n{given(SCRIPT)}" for cut in range(len(script) + 1)))
+    script = "".join(line + "\n" for line in lines)
+    shown = rows.show("".join(f"# cut {cut}\n-- run\n-- cut {cut}\n{given(lines)}" for cut in range(len(script) + 1)))
     for cut, ran in enumerate(shown):
         want = replies(script[:cut].splitlines())
         report(ran.status == 0 and ran.written == want, f"the first {cut} bytes: {ran.written}, and not {want}")
     report(len(shown) == len(script) + 1, "as many rows as bytes")
+
+
+# What may be listed once so many lines were answered by a run that was stopped: what the sync made durable, and what
+# the run's end would.
+STOPPED = ["mkdir /a", "sync", "mkdir /b"]
+LISTED = [["ok"], ["ok", "ok a/"], ["ok a/"], ["ok a/", "ok a/ b/"]]
+
+
+def stopped_run(rows, report):
+    """A run with a sync between two lines, stopped at each call of the device: the second directory is never there
+    without the first one, which is there from the sync's acknowledgement on."""
+    whole = rows.show(f"# no call fails\n{given(STOPPED)}")[0]
+    report(whole.status == 0 and whole.acks == [1, 2] and whole.calls > 10, f"a run with a sync: {whole.calls} {whole.acks}")
+    texts = [f"# call {call}\n-- run\n-- fuse {call} {TEARS[call % 3]}\n{given(STOPPED)}-- again\n> list /\n"
+             for call in range(1, whole.calls + 1)]
+    for ran, then in rows.show_each(texts):
+        done = ran.written[:-1]
+        is_right = ran.status == 3 and ran.written[-1:] == ["fault device"] and done == ["ok"] * len(done) and is_last(ran)
+        is_right = is_right and ran.acks == [1] * (len(done) >= 2) and then.status == 0
+        report(is_right and len(then.written) == 1 and then.written[0] in LISTED[len(done)],
+               f"a run with a sync, stopped: {ran.label}: {ran.written} {ran.acks} {then.written}")
 
 
 def failed_sync(rows, report):
@@ -113,27 +144,37 @@ def failed_sync(rows, report):
     report(then.written in (["ok a/"], ["ok"]), "a run after a failed sync")
 
 
-def short_walks(rows, report):
+def short_walks(rows, report, slots):
     """Clones of the root visit few nodes, however often they are made."""
     lines = ["clone / /s1", "walk", "clone / /s2", "walk", "clone / /s3", "walk", "list /s3", "list /"]
-    (ran,) = rows.show(f"# walks\n{given(lines)}")
+    (ran,) = rows.show(f"# walks\n-- slots {slots}\n{given(lines)}")
     walks = [re.fullmatch(r"ok walk (\d+) of (\d+)", reply) for reply in ran.written[1:6:2]]
     report(all(walk and int(walk[2]) >= 2 and int(walk[1]) <= 5 * int(walk[2]) + 2 for walk in walks), f"{ran.written}")
     others = [reply for at, reply in enumerate(ran.written) if at not in (1, 3, 5)]
     report(others == ["ok", "ok", "ok", "ok s1/ s2/", "ok s1/ s2/ s3/"], f"clones of the root: {others}")
 
 
-def full_image(rows, report):
-    """An image that was full has room again once what was removed is reclaimed."""
-    lines = ["mkdir /d", "create /d/f"] + [f"write /d/f {2048 * at} {{5a*2048}}" for at in range(400)]
-    lines += ["remove /d", "reclaim", "checkpoint", "create /g", "list /"]
-    (ran,) = rows.show(f"# full\n{given(lines)}")
+ROOM_AGAIN = ["remove /d", "reclaim", "checkpoint", "create /g", "list /"]
+
+
+def full_image(rows, report, pieces, label):
+    """An image that was full has room again once what was removed is reclaimed. How many lines were done before it was
+    full."""
+    lines = ["mkdir /d", "create /d/f"] + [f"write /d/f {2048 * at} {{5a*2048}}" for at in range(pieces)]
+    (ran,) = rows.show(f"# full\n{given(lines + ROOM_AGAIN)}")
     writes, rest = ran.written[:-5], ran.written[-5:]
     done = next((at for at, reply in enumerate(writes) if reply != "ok"), len(writes))
-    full = [re.fullmatch(r"full (\d+) (\d+)", reply) for reply in writes[done:]]
-    report(ran.status == 0 and rest == ["ok", "ok", "ok", "ok", "ok g"], f"no room after it was reclaimed: {rest}")
-    report(done > 10 and len(full) > 0, f"{done} lines done, {len(full)} full")
-    report(all(told and int(told[1]) < int(told[2]) for told in full), "another reply where it is full")
+    full = [re.fullmatch(r"full (\d+) (\d+)", reply) for reply in writes[done:] if reply != "ok"]
+    report(ran.status == 0 and rest == ["ok", "ok", "ok", "ok", "ok g"], f"{label}: no room after it was reclaimed: {rest}")
+    report(done > 10 and len(full) > 0 and len(ran.written) == len(lines) + 5, f"{label}: {done} lines done, {len(full)} full")
+    report(all(told and int(told[1]) < int(told[2]) for told in full), f"{label}: another reply where it is full")
+    return done
+
+
+def full_images(rows, report):
+    """The lines go on where it is full, or end with the first that has no room."""
+    done = full_image(rows, report, 400, "a full image")
+    report(full_image(rows, report, done - 1, "an image that gets full") == done, "the first line that has no room")
 
 
 def worn_level(rows, report):
@@ -158,11 +199,81 @@ def long_script(rows, report):
     report(run.stdout == b"no 10 bad-line\n" * count + b"fault too-long\n", "what a long script is answered")
 
 
-def same_fills(rows, report):
-    """A fill of two new images tells the same."""
-    first, second = rows.show("# a fill\n-- fill 1 500\n# the same\n-- fill 1 500\n")
-    report(first.status == 0 and first.written == second.written, "two fills")
-    report(first.written[0].startswith("fill 508 ok ") and len(first.written) == 1, f"a fill: {first.written}")
+FILLED = re.compile(r"fill (\d+) ok (\d+) no (\d+) full (\d+)\n")
+
+
+def filled(rows, folder, name, count):
+    """What a fill of seed 1 tells on a new image of 512 slots: how many lines it executed, and their replies by kind."""
+    image = str(Path(folder) / name)
+    subprocess.run([rows.betr, "format", image, "512"], stdout=subprocess.DEVNULL, check=True)
+    run = subprocess.run([rows.betr, "fill", image, "1", str(count)], stdout=subprocess.PIPE, text=True, check=False)
+    told = FILLED.fullmatch(run.stdout)
+    return [int(number) for number in told.groups()] if told and run.returncode == 0 else []
+
+
+def kinds_of(tree, lines, answers):
+    """How many of these answers are `ok`, `no` and `full`, or nothing where one isn't right beside the plain map: a
+    line that is full is one that the map would accept, and the map stays."""
+    counts = [0, 0, 0]
+    for line, answer in zip(lines, answers, strict=True):
+        kind = ["ok", "no", "full"].index(answer.split(" ")[0])
+        if kind < 2 and tree.reply(line.encode()).decode() != answer:
+            return []
+        if kind == 2 and not (is_full(answer) and tree.would_accept(line)):
+            return []
+        counts[kind] += 1
+    return counts
+
+
+def is_full(answer):
+    told = re.fullmatch(r"full (\d+) (\d+)", answer)
+    return bool(told) and int(told[1]) < int(told[2])
+
+
+class Tree(PlainMap):
+    """The plain map, which can be asked whether it would accept a line of a writing command."""
+
+    def would_accept(self, line):
+        before = self.entries, self.modes
+        self.entries, self.modes = dict(self.entries), dict(self.modes)
+        answer = self.reply(line.encode())
+        self.entries, self.modes = before
+        return answer == b"ok" and not line.startswith("read ")
+
+
+def lines_of_fills(count):
+    """The lines of a fill of seed 1, by the rule alone."""
+    told = subprocess.run([TOOLS / "lines", "1", str(count)], stdout=subprocess.PIPE, text=True, check=True)
+    return told.stdout.splitlines()
+
+
+def small_fill(rows, report, folder):
+    """A fill for which each line has room tells what the plain map replies to its lines."""
+    lines = lines_of_fills(508)
+    want = [508] + kinds_of(Tree(), lines, replies(lines))
+    told = filled(rows, folder, "small", 500)
+    report(told == want == [508, 216, 292, 0], f"a fill: {told}, and not {want}")
+
+
+def large_fills(rows, report, folder):
+    """A fill of 5,000 lines more tells the same on two new images: how often a run of its lines answers each kind,
+    whose replies are those of the plain map, but to lines that have no room."""
+    lines = lines_of_fills(5008)
+    image = str(Path(folder) / "lines")
+    subprocess.run([rows.betr, "format", image, "512"], stdout=subprocess.DEVNULL, check=True)
+    script = "".join(line + "\n" for line in lines)
+    run = subprocess.run([rows.betr, "run", image], input=script, stdout=subprocess.PIPE, text=True, check=False)
+    answers = run.stdout.splitlines()
+    report(run.returncode == 0 and len(answers) == 5008, f"the lines of a fill: {len(answers)} answers")
+    want = [5008] + kinds_of(Tree(), lines, answers)
+    first, second = (filled(rows, folder, name, 5000) for name in ("first", "second"))
+    report(len(want) == 4 and first == second == want and sum(want[1:]) == 5008, f"fills: {first}, {second}, and not {want}")
+
+
+def fills(rows, report):
+    with tempfile.TemporaryDirectory() as folder:
+        small_fill(rows, report, folder)
+        large_fills(rows, report, folder)
 
 
 def bad_slot(rows, report):
@@ -187,11 +298,14 @@ def test(rows, report):
     failing_device(rows, report)
     failing_takes(rows, report)
     failing_puts(rows, report)
-    cut_scripts(rows, report)
+    cut_scripts(rows, report, SCRIPT)
+    cut_scripts(rows, report, OVER_A_BORDER)
+    stopped_run(rows, report)
     failed_sync(rows, report)
-    short_walks(rows, report)
-    full_image(rows, report)
+    short_walks(rows, report, 24)
+    short_walks(rows, report, 256)
+    full_images(rows, report)
     worn_level(rows, report)
     long_script(rows, report)
-    same_fills(rows, report)
+    fills(rows, report)
     bad_slot(rows, report)
