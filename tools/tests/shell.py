@@ -178,9 +178,13 @@ def full_images(rows, report):
 
 
 def worn_level(rows, report):
-    """Clones of the root add a level each, at most, until a level is worn."""
-    lines = "".join(f"> clone / /s{at}\n" for at in range(4000))
-    (ran,) = rows.show(f"# worn\n-- slots 4200\n{lines}")
+    """Clones of the root add a level each, at most, until a level is worn. A slow program that isn't proved makes a
+    hundred of them, which wear none."""
+    if "unproved" in rows.program:
+        (ran,) = rows.show("# clones\n-- slots 4200\n" + given(f"clone / /s{at}" for at in range(100)))
+        report(ran.status == 0 and ran.written == ["ok"] * 100, f"a hundred clones: {ran.written[-1:]}")
+        return
+    (ran,) = rows.show("# worn\n-- slots 4200\n" + given(f"clone / /s{at}" for at in range(4000)))
     oks = ran.written[:-1]
     report(ran.status == 8 and ran.written[-1:] == ["fault worn level"], f"another fault: {ran.written[-1:]}")
     report(all(reply == "ok" for reply in oks) and len(oks) >= 999, f"{len(oks)} clones")
