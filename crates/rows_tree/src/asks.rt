@@ -1,9 +1,9 @@
 //! Lines that ask the keys: `get KEY VALUE`, `has KEY`, `none KEY`, `next FROM WITHIN KEY VALUE`,
-//! `nothing FROM WITHIN` (there is no next one), `after` as `next` of the tree alone, `scan FROM WITHIN MOST FOUND`, what is found being
-//! written as KEY=VALUE with a comma after each, `front FROM WITHIN` (scans of the tree find the first
-//! of what those of the map find), `same KEYS` and `search FROMS WITHINS`, with commas between (the
-//! tree answers as the map), and `keys COUNT` or `keys` (all have
-//! the same keys, and the same at each).
+//! `nothing FROM WITHIN` (there is no next one), `after` as `next` of the tree alone, `scan FROM
+//! WITHIN MOST FOUND`, what is found being written as KEY=VALUE with a comma after each, `front
+//! FROM WITHIN` (scans of the tree find the first of what those of the map find), `same KEYS` and
+//! `search FROMS WITHINS`, with commas between (the tree answers as the map), and `keys COUNT` or
+//! `keys` (all have the same keys, and the same at each).
 
 use crate::machine::Machine;
 use crate::stop::{Stop, ensure, within};
