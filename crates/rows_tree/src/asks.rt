@@ -195,8 +195,8 @@ fn is_same_next<A: KeyMap, B: KeyMap>(
     }
 }
 
-/// How many keys two maps have, if they have the same, and the same at each and at the one before the
-/// next key.
+/// How many keys two maps have, if they have the same, and the same at each and at the one before
+/// the next key.
 pub fn same_keys<A: KeyMap, B: KeyMap>(alloc: Global, a: &mut A, b: &mut B) -> Result<u64, Stop> {
     let mut at = Vec::new(alloc);
     for count in 0..10_000 {
