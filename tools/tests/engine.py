@@ -81,11 +81,11 @@ def opened_again(rows, report):
 
 def large_file(rows, report):
     """What is written once more needs as many nodes, and the slots that only the checkpoint before the last one held
-    are free again: after each further round as many slots are free."""
+    are free again: on 48 slots, which have room for both, as many are free after each further round."""
     tree, lines = PlainMap(), LINES + PIECES
     for _ in range(11):
         lines = lines + PIECES + ["checkpoint", "df"]
-    call = rows.show(f"# a large file\n-- run\n{script(lines + ASKED)}")[-1]
+    call = rows.show(f"# a large file\n-- slots 48\n-- run\n{script(lines + ASKED)}")[-1]
     free = {reply for line, reply in zip(lines, call.written) if line == "df"}
     report(len(free) == 1 and free.pop().startswith("ok free "), "engine: a large file needs no more slots")
     for line, reply in zip(lines + ASKED, call.written):

@@ -1,9 +1,9 @@
 //! Lines that ask the keys: `get KEY VALUE`, `has KEY`, `none KEY`, `next FROM WITHIN KEY VALUE`,
-//! `nothing FROM WITHIN` (there is no next one), `after` as `next` of the tree alone, `scan FROM WITHIN MOST FOUND`, what is found being
-//! written as KEY=VALUE with a comma after each, `front FROM WITHIN` (scans of the tree find the first
-//! of what those of the map find), `same KEYS` and `search FROMS WITHINS`, with commas between (the
-//! tree answers as the map), and `keys COUNT` or `keys` (all have
-//! the same keys, and the same at each).
+//! `nothing FROM WITHIN` (there is no next one), `after` as `next` of the tree alone, `scan FROM
+//! WITHIN MOST FOUND`, what is found being written as KEY=VALUE with a comma after each, `front
+//! FROM WITHIN` (scans of the tree find the first of what those of the map find), `same KEYS` and
+//! `search FROMS WITHINS`, with commas between (the tree answers as the map), and `keys COUNT` or
+//! `keys` (all have the same keys, and the same at each).
 
 use crate::machine::Machine;
 use crate::stop::{Stop, ensure, within};
@@ -195,8 +195,8 @@ fn is_same_next<A: KeyMap, B: KeyMap>(
     }
 }
 
-/// How many keys two maps have, if they have the same, and the same at each and at the one before the
-/// next key.
+/// How many keys two maps have, if they have the same, and the same at each and at the one before
+/// the next key.
 pub fn same_keys<A: KeyMap, B: KeyMap>(alloc: Global, a: &mut A, b: &mut B) -> Result<u64, Stop> {
     let mut at = Vec::new(alloc);
     for count in 0..10_000 {

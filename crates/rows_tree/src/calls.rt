@@ -1,8 +1,8 @@
-//! Lines that change what there is: `put KEY VALUE`, `del KEY`, `patch KEY VALUE` (from offset 3 on),
-//! `cut PREFIX FROM`, `clone FROM TO`, `move FROM TO`, `lone FROM TO` (a
-//! clone in the tree alone), `worn FROM TO` (no clone, since the level is worn), `flush LIMIT`, `limit LIMIT` (a flush after each
-//! call from then on), `reclaim` (no push is asked for), and `pushes COUNT` (with pushes, of which
-//! there are at least so many).
+//! Lines that change what there is: `put KEY VALUE`, `del KEY`, `patch KEY VALUE` (from offset 3
+//! on), `cut PREFIX FROM`, `clone FROM TO`, `move FROM TO`, `lone FROM TO` (a clone in the tree
+//! alone), `worn FROM TO` (no clone, since the level is worn), `flush LIMIT`, `limit LIMIT` (a
+//! flush after each call from then on), `reclaim` (no push is asked for), and `pushes COUNT` (with
+//! pushes, of which there are at least so many).
 
 use crate::machine::{Machine, graft, reclaim};
 use crate::stop::{Stop, ensure, within};

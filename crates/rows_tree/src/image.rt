@@ -4,15 +4,15 @@
 //! checkpoint, whose table has this slot alone, or any for `-`), `unsaved` (a checkpoint fails, and
 //! leaves what is told of the nodes as it was), `close SLOT` (a checkpoint, and only the device is
 //! left), `open ROOM` (the nodes are read again), `read ROOM` (they are read again to be asked) and
-//! `ask` (they are asked as they are), and `back` (only the device is left again). Of nodes that may be
-//! changed: `spill EARLY` (from then on, after each flush,
-//! all changed nodes but so many are written), `usage CHANGED FREE`, `alike` (their numbers are those of the tree, with as
-//! many visits since `open`), `failing-flush LIMIT` (one that goes on where a step fails, if this
-//! leaves what is told as it was) and `faults COUNT`. Of nodes that are asked: `same-nodes` (those of
-//! the tree, each named as often) and `calls LOW HIGH` (of the device since `read`). Of a device:
-//! `root ID REFS SLOT` (the table has one node), `write BLOCK BYTES`, `aside` (it is kept),
-//! `copy FROM TO COUNT` (blocks of the one kept aside), `damaged BLOCK` and `undamaged` (where all keys
-//! of one byte are asked).
+//! `ask` (they are asked as they are), and `back` (only the device is left again). Of nodes that
+//! may be changed: `spill EARLY` (from then on, after each flush, all changed nodes but so many are
+//! written), `usage CHANGED FREE`, `alike` (their numbers are those of the tree, with as many
+//! visits since `open`), `failing-flush LIMIT` (one that goes on where a step fails, if this leaves
+//! what is told as it was) and `faults COUNT`. Of nodes that are asked: `same-nodes` (those of the
+//! tree, each named as often) and `calls LOW HIGH` (of the device since `read`). Of a device: `root
+//! ID REFS SLOT` (the table has one node), `write BLOCK BYTES`, `aside` (it is kept), `copy FROM TO
+//! COUNT` (blocks of the one kept aside), `damaged BLOCK` and `undamaged` (where all keys of one
+//! byte are asked).
 
 use crate::asks::{is_at, same_keys};
 use crate::machine::{Machine, flush as flush_tree};

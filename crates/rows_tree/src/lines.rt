@@ -1,8 +1,9 @@
-//! The lines of rows. A file has rows, each of which begins with `# LABEL`, without keys; lines after
-//! that which are empty or begin with `//` say nothing. What the other lines do is said in `calls`,
-//! `asks`, `shapes` and `image`. `each FIRST STEP COUNT MODULUS LINE` runs a line for so many numbers,
-//! and `new` begins again without keys. A word of bytes has parts with `+` between: a text or `%` and
-//! hexadecimal digits, and behind `*` how often it stands there; `-` stands for no bytes.
+//! The lines of rows. A file has rows, each of which begins with `# LABEL`, without keys; lines
+//! after that which are empty or begin with `//` say nothing. What the other lines do is said in
+//! `calls`, `asks`, `shapes` and `image`. `each FIRST STEP COUNT MODULUS LINE` runs a line for so
+//! many numbers, and `new` begins again without keys. A word of bytes has parts with `+` between: a
+//! text or `%` and hexadecimal digits, and behind `*` how often it stands there; `-` stands for no
+//! bytes.
 
 use crate::machine::Machine;
 use crate::stop::Stop;

@@ -2,12 +2,12 @@
 
 use crate::image::Disk;
 use crate::stop::Stop;
+use bd_cover::Reclaim;
 use bd_keys::starts;
 use bd_limits::{GRAFT_SIZE, MAX_KEY};
 use bd_memnodes::MemNodes;
 use bd_message::{KeyMap, ListMap, Message};
 use bd_node::{Node, NodeStore};
-use bd_cover::Reclaim;
 use bd_tree::Tree;
 use std::alloc::{AllocError, Global};
 use std::rc::Rc;

@@ -116,7 +116,7 @@ impl<'t> Report<'t> {
 
     /// Tells of a line that isn't as it says.
     fn fail(&mut self, line: &str, stop: Stop) -> Result<(), AllocError> {
-        self.has_failed = false;
+        self.has_failed = true;
         self.counts.failed = self.counts.failed.saturating_add(1);
         let (name, label, number) = (self.name, self.label, self.counts.lines);
         write!(self.text, "{name}:{number}: {label}: {line}: {stop:?}\n")

@@ -1,10 +1,10 @@
 //! Lines on the nodes of the tree in memory: `height LOW HIGH`, `nodes LOW HIGH`, `made COUNT` (so
-//! many new ids in the last call), `walk VISITS` (of the last graft), `visits COUNT`, `size BYTES` (what
-//! waits in the root), `edges COUNT` (of the root), `together KEY KEY` and `apart KEY KEY` (the root asks
-//! the same child for them, or not), `step LIMIT` (a step of a flush is made), `gotos LEAST` (so many
-//! nodes below the root in which a Goto waits), `stays LIMIT LEAST` (a flush, each step of which leaves
-//! the shared nodes as they were, so many in all), and `hold`, `held COUNT` (so many messages wait in
-//! the root that is held) and `release`.
+//! many new ids in the last call), `walk VISITS` (of the last graft), `visits COUNT`, `size BYTES`
+//! (what waits in the root), `edges COUNT` (of the root), `together KEY KEY` and `apart KEY KEY`
+//! (the root asks the same child for them, or not), `step LIMIT` (a step of a flush is made),
+//! `gotos LEAST` (so many nodes below the root in which a Goto waits), `stays LIMIT LEAST` (a
+//! flush, each step of which leaves the shared nodes as they were, so many in all), and `hold`,
+//! `held COUNT` (so many messages wait in the root that is held) and `release`.
 
 use crate::machine::Machine;
 use crate::stop::{Stop, ensure, within};

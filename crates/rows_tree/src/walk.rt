@@ -8,8 +8,8 @@ use bd_counts::push_node;
 use bd_node::{Node, NodeStore};
 use std::alloc::{AllocError, Global};
 
-/// A node: its id, how often it is named, whether more than one way from the root leads to it, and its
-/// fields as text.
+/// A node: its id, how often it is named, whether more than one way from the root leads to it, and
+/// its fields as text.
 #[derive(PartialEq, Drop)]
 pub struct Shown {
     id: u64,

@@ -68,8 +68,8 @@ fn push_digits(all: &mut Vec<u8>, digits: &str, times: u64) -> Result<(), Stop> 
     }
 }
 
-/// A line in which `{d}` stands for the three digits of a number, `{h}` for the four of its last two
-/// bytes, and `{b}` for the two of what it leaves by 251.
+/// A line in which `{d}` stands for the three digits of a number, `{h}` for the four of its last
+/// two bytes, and `{b}` for the two of what it leaves by 251.
 pub fn expanded(alloc: Global, line: &str, number: u64) -> Result<String, AllocError> {
     let mut text = String::new(alloc);
     let mut parts = line.split("{");
