@@ -164,7 +164,7 @@ def full_image(rows, report, pieces, label):
     (ran,) = rows.show(f"# full\n{given(lines + ROOM_AGAIN)}")
     writes, rest = ran.written[:-5], ran.written[-5:]
     done = next((at for at, reply in enumerate(writes) if reply != "ok"), len(writes))
-    full = [re.fullmatch(r"full (\d+) (\d+)", reply) for reply in writes[done:] if reply != "ok"]
+    full = [re.fullmatch(r"full (\d+) (\d+)", reply) for reply in writes[done:]]
     report(ran.status == 0 and rest == ["ok", "ok", "ok", "ok", "ok g"], f"{label}: no room after it was reclaimed: {rest}")
     report(done > 10 and len(full) > 0 and len(ran.written) == len(lines) + 5, f"{label}: {done} lines done, {len(full)} full")
     report(all(told and int(told[1]) < int(told[2]) for told in full), f"{label}: another reply where it is full")
