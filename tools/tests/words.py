@@ -120,6 +120,7 @@ def fills(betr, report, fresh):
             found = folder.call(["fill", *words], b"mkdir /other\n")
             status, written = other.call(["run", "img"], script)
             report(status == 0 and found == (0, counts(written)), label)
+            report(b"no 9" not in written and b"no 10" not in written, f"{label}: each line is read")
             is_same = (folder.path / "img").read_bytes() == (other.path / "img").read_bytes()
             report(is_same and folder.names() == ["img"], f"{label}: the image")
     for words in [words for words, _, _ in FILLS] + [GREATEST]:

@@ -10,8 +10,8 @@ ghost use Rattle.bd_calls.specs.Run.{IsFlushed, RanGenerated, disk};
 ghost use Rattle.bd_shell.specs.Session.{end_of};
 ghost use Rattle.bd_shell.specs.Shell.{counts_of};
 
+use crate::calling::{Ended, end_call, run_image};
 use crate::format::say;
-use crate::run::{Ended, end_call, run_image};
 use bd_device::Attach;
 use bd_fill::{CountingSink, GeneratedSource, SUMMARY_SIZE, Tally};
 use bd_io::Sink;

@@ -3,11 +3,11 @@
 //! The layer above uses the contracts of `run` and of `row`, the same over memory, and the laws.
 #![tactic(auto)]
 
+mod calling;
 mod fill;
 mod format;
 pub mod laws;
-mod row;
-mod run;
+mod memory;
 
-pub use row::row;
-pub use run::run;
+pub use calling::run;
+pub use memory::row;

@@ -7,8 +7,6 @@
 #[cfg(test)]
 mod command;
 #[cfg(test)]
-mod dirs;
-#[cfg(test)]
 mod io;
 #[cfg(test)]
 mod keys;

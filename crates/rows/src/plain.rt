@@ -1,14 +1,12 @@
 //! The plain program takes each command once, on the tree of `/` alone. The worked rows of the map
-//! run through the program itself, in `betr`.
+//! run through the program itself.
 
-use bd_command::{Refusal, Reply};
 use bd_plain::PlainTree;
-use bd_script::{Line, LineFault, read_line};
-use rows_tools::{stepped, text_of};
+use rows_tools::{plain_answer, text_of};
 use std::alloc::Global;
 use std::test::Fail;
 
-/// Lines that take each command, and lines that are none, with their replies.
+/// Lines that take each command, with their replies.
 pub const LINES: &[(&str, &str)] = &[
     ("mkdir /d", "ok"),
     ("create /d/f", "ok"),
@@ -25,24 +23,11 @@ pub const LINES: &[(&str, &str)] = &[
     ("stat /d/f", "ok file 3 0000"),
     ("remove /d", "ok"),
     ("stat /d", "no 1 not-found"),
-    ("mkdir g", "no 9 bad-path"),
-    ("mkdir", "no 10 bad-line"),
 ];
 
-/// The reply to a line that is a command, or that is refused.
-fn answer(alloc: Global, tree: &mut PlainTree, line: &str) -> Result<Reply, Fail> {
-    match read_line(alloc, line.as_bytes()) {
-        Ok(Line::Run(command)) => stepped(alloc, tree, &command),
-        Ok(_) => Err(Fail::new("no command")),
-        Err(LineFault::BadPath) => Ok(Reply::Refused(Refusal::BadPath)),
-        Err(LineFault::BadLine) => Ok(Reply::Refused(Refusal::BadLine)),
-        Err(LineFault::NoMemory) => Err(Fail::new("no memory")),
-    }
-}
-
-/// The text of that reply.
+/// The text of what a line is answered.
 fn answered(alloc: Global, tree: &mut PlainTree, line: &str) -> Result<String, Fail> {
-    let found = answer(alloc, tree, line)?;
+    let found = plain_answer(alloc, tree, line)?;
     text_of(alloc, &found)
 }
 

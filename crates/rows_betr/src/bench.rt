@@ -491,26 +491,26 @@ impl<'t> Bench<'t> {
         if told.written.as_str() == self.wanted.as_str() {
             return Ok(());
         }
-        self.is_wrong = true;
-        let mut found = told.written.as_str().split("\n");
-        let mut wanted = self.wanted.as_str().split("\n");
-        let mut line = plan.line;
-        let (mut a, mut b) = ("", "");
-        for place in self.places.as_slice() {
-            if a == b {
-                line = *place;
-                a = found.next().unwrap_or("");
-                b = wanted.next().unwrap_or("");
-            }
-        }
-        if a == b {
-            a = found.next().unwrap_or("");
-            b = "";
-        }
-        let (file, label) = (self.file, self.label);
-        write!(self.report, "{file}:{line}: {label}: ")?;
-        writeln!(self.report, "found \"{a}\", not \"{b}\"")
+        let other = first_other(told.written.as_str(), self.wanted.as_str());
+        let Some((at, found, want)) = other else {
+            return self.differ(plan.line, "no newline", "a newline");
+        };
+        let want = String::from_str(self.alloc, want)?;
+        let line = self.places.get(at).copied().unwrap_or(plan.line);
+        self.differ(line, found, want.as_str())
     }
+}
+
+/// The first line that differs from what is wanted, its number from 0 on and both texts.
+fn first_other<'f, 'w>(found: &'f str, wanted: &'w str) -> Option<(usize, &'f str, &'w str)> {
+    let mut wants = wanted.split("\n");
+    for (at, line) in found.split("\n").enumerate() {
+        let want = wants.next().unwrap_or("");
+        if line != want {
+            return Some((at, line, want));
+        }
+    }
+    None
 }
 
 /// A block, a place in it, and what stands after them.

@@ -4,11 +4,11 @@ ghost use Rattle.bd_node.specs.Nodes.{level_of};
 ghost use Rattle.bd_node.specs.Shape.{IsShape};
 
 use crate::inner::{node, parts, put, raised, with_two};
+use crate::made::message;
 use bd_inner::carve;
 use bd_limits::ROOM_EDGES;
 use bd_message::Message;
 use bd_node::{Edge, Node};
-use rows_tools::message;
 use std::alloc::Global;
 use std::test::Fail;
 

@@ -1,8 +1,8 @@
 //! The messages that wait in a node, asked by their index and without one.
 
+use crate::made::message;
 use bd_message::Message;
 use bd_node::Messages;
-use rows_tools::{Numbers, message};
 use std::alloc::{AllocError, Global};
 use std::test::Fail;
 
@@ -59,50 +59,96 @@ fn messages_that_touch_a_key(rt: HostRuntime) -> Result<(), Fail> {
     Ok(())
 }
 
-/// The keys, prefixes and sources of messages by a fixed rule.
+/// The keys, prefixes and sources of more messages.
 const KEYS: &[&str] = &["", "a", "aa", "ab", "abc", "b", "ba", "c"];
 
-/// Their kinds.
-const KINDS: &[&str] = &["put", "del", "patch", "put", "cut", "goto"];
+/// More messages, the oldest first, which were picked by a fixed rule.
+const MORE: &[(&str, &str, &str)] = &[
+    ("put", "aa", "abc"),
+    ("put", "a", "abc"),
+    ("goto", "", "ab"),
+    ("del", "a", ""),
+    ("patch", "c", "ab"),
+    ("patch", "a", "c"),
+    ("put", "ba", "aa"),
+    ("patch", "a", "c"),
+    ("cut", "b", "a"),
+    ("patch", "c", "abc"),
+    ("del", "ba", ""),
+    ("patch", "", "abc"),
+    ("patch", "b", "ba"),
+    ("goto", "b", "a"),
+    ("patch", "a", "abc"),
+    ("goto", "c", "b"),
+    ("put", "a", "abc"),
+    ("cut", "aa", ""),
+    ("patch", "ba", "b"),
+    ("goto", "ba", "ba"),
+    ("put", "a", "aa"),
+    ("del", "abc", ""),
+    ("put", "aa", "abc"),
+    ("cut", "b", ""),
+    ("put", "aa", "ba"),
+    ("cut", "ba", "abc"),
+    ("put", "a", "ab"),
+    ("patch", "a", "ab"),
+    ("del", "abc", ""),
+    ("cut", "ba", "aa"),
+    ("cut", "b", "b"),
+    ("patch", "a", ""),
+    ("put", "aa", "abc"),
+    ("cut", "aa", "b"),
+    ("goto", "b", ""),
+    ("goto", "aa", "a"),
+    ("goto", "ba", ""),
+    ("cut", "abc", "b"),
+    ("del", "", "a"),
+    ("put", "c", "ab"),
+];
 
 /// Places from the first one up to the end of a list of 40 messages.
 const PLACES: usize = 41;
 
-/// Whether two lists of at most 40 messages answer alike at each key and from each place on.
-fn is_alike(a: &Messages, b: &Messages) -> bool {
-    for key in KEYS {
-        let key = key.as_bytes();
-        for from in 0..PLACES {
-            if a.next_touching(from, key) != b.next_touching(from, key)
-                || a.newest_touching(from, key) != b.newest_touching(from, key)
-                || a.next_point(from, key).is_some() != b.next_point(from, key).is_some()
-                || a.next_range(from) != b.next_range(from)
-            {
-                return false;
-            }
+/// Whether two lists answer alike at a key and from each place on.
+fn are_alike_at(a: &Messages, b: &Messages, key: &[u8]) -> bool {
+    for from in 0..PLACES {
+        if a.next_touching(from, key) != b.next_touching(from, key)
+            || a.newest_touching(from, key) != b.newest_touching(from, key)
+            || a.next_point(from, key).is_some() != b.next_point(from, key).is_some()
+            || a.next_range(from) != b.next_range(from)
+        {
+            return false;
         }
     }
     true
 }
 
+/// Whether two lists answer alike at each key.
+fn are_alike(a: &Messages, b: &Messages) -> bool {
+    KEYS.iter().all(|key| are_alike_at(a, b, key.as_bytes()))
+}
+
+/// Whether a list with an index, to which one more message was appended, and a copy of it answer as
+/// a list of the same messages without an index.
+fn is_appended(
+    alloc: Global,
+    words: &(&str, &str, &str),
+    list: &mut Vec<Message>,
+    appended: &mut Messages,
+) -> Result<bool, AllocError> {
+    let (name, first, second) = words;
+    list.push(message(alloc, name, first, second)?)?;
+    appended.append(Messages::from_vec(made(alloc, &[*words])?))?;
+    let scanned = Messages::from_vec(list.clone()?);
+    Ok(are_alike(&scanned, appended) && are_alike(&scanned, &appended.clone()?))
+}
+
 #[test]
 fn an_index_answers_as_a_scan_does(rt: HostRuntime) -> Result<(), Fail> {
-    let alloc = rt.alloc();
-    let mut numbers = Numbers(7);
-    let mut list = Vec::new(alloc);
-    let mut appended = Messages::new(alloc);
-    for _ in 0..40 {
-        let kind = numbers.pick(KINDS)?;
-        let first = numbers.pick(KEYS)?;
-        let second = numbers.pick(KEYS)?;
-        let next = message(alloc, kind, first, second)?;
-        let mut one = Vec::new(alloc);
-        one.push(next.clone()?)?;
-        list.push(next)?;
-        appended.append(Messages::from_vec(one))?;
-        let scanned = Messages::from_vec(list.clone()?);
-        assert!(rt; is_alike(&scanned, &appended));
-        assert!(rt; is_alike(&scanned, &appended.clone()?));
+    let mut list = Vec::new(rt.alloc());
+    let mut appended = Messages::new(rt.alloc());
+    for words in MORE {
+        assert!(rt; is_appended(rt.alloc(), words, &mut list, &mut appended)?);
     }
     Ok(())
 }

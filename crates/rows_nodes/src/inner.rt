@@ -9,13 +9,13 @@ ghost use Rattle.bd_node.specs.Parts.{edges_of, buffer_of};
 ghost use Rattle.bd_inner.specs.Batches.{IsLifted};
 
 use crate::leaf::plain;
+use crate::made::message;
 use bd_inner::laws::{compacted_nodes, edges_fit, flat_edges};
 use bd_inner::{Halves, clip, compact, edge_to, exchange, next_batch, receive, split};
 use bd_keys::Bytes;
 use bd_limits::{FULL_EDGES, MAX_BUFFER, MAX_EDGES, MAX_KEY};
 use bd_message::Message;
 use bd_node::{Edge, Items, Messages, Node};
-use rows_tools::message;
 use std::alloc::{AllocError, Global};
 use std::test::Fail;
 

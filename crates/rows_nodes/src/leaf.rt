@@ -2,10 +2,10 @@ ghost use Rattle.std.specs.Prelude.{◌≤◌, length, IfOk};
 ghost use Rattle.bd_leaf.specs.Leaves.{AreEntries};
 ghost use Rattle.bd_message.specs.Messages.{IsMessage, IsPlain};
 
+use crate::made::message;
 use bd_leaf::{clip, fits, receive, split, value_at};
 use bd_message::Message;
 use bd_node::Entries;
-use rows_tools::message;
 use std::alloc::{AllocError, Global};
 use std::test::Fail;
 

@@ -16,6 +16,4 @@ mod inner;
 #[cfg(test)]
 mod leaf;
 #[cfg(test)]
-mod nodes;
-#[cfg(test)]
-mod search;
+mod made;

@@ -1,18 +1,12 @@
-//! What tests of several crates use: messages by their names, numbers by a fixed rule, commands over
-//! a key map and by the plain program, a map beside a tree of nodes, and what a loss of power leaves.
+//! What tests of several crates use: messages by their names, and commands of lines by the plain
+//! program, with their replies as text.
 //! The tests above use what stands here as it is; no clause says what it does.
 #![tactic(auto)]
 
-mod both;
 mod commands;
 mod messages;
-mod numbers;
 mod replies;
-mod tears;
 
-pub use both::{Both, flush};
-pub use commands::{answer, messages_of, plain_answer, root_alone, stepped};
+pub use commands::plain_answer;
 pub use messages::{apply, graft, message};
-pub use numbers::Numbers;
-pub use replies::{shown, text_of};
-pub use tears::TEARS;
+pub use replies::text_of;

@@ -21,8 +21,3 @@ pub fn text_of(alloc: Global, answer: &Reply) -> Result<String, Fail> {
     let text = str::from_utf8(&into[..end])?;
     Ok(String::from_str(alloc, text.trim_end())?)
 }
-
-/// A reply with all its fields.
-pub fn shown(alloc: Global, answer: &Reply) -> Result<String, Fail> {
-    Ok(format!(in alloc; "{answer:?}")?)
-}

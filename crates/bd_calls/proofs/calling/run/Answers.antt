@@ -1,0 +1,153 @@
+-- Each call ends well, or by a fault whose line is written; words that are no call, or that weren't
+-- read, touch nothing.
+use Rattle.std.proofs.Common.{refl, sym, ap, ◌∙◌, rules, arith, inl, inr}
+use Rattle.std.specs.declared.option.Option.TheVariants.{Some}
+use Rattle.bd_words.specs.Calls.{asked}
+use Rattle.bd_shell.specs.Fault.{faults}
+use Rattle.bd_shell.specs.Session.{end_of}
+use Rattle.bd_fill.specs.Counting.{tally_line}
+use Rattle.bd_words.specs.Words.{Run, Format, Fill}
+use Rattle.bd_shell.proofs.Moving.{is_caused_beside}
+use Rattle.bd_calls.proofs.Runs.{of_call, ended_well, ok_of_none, well_counts, run_complete, cause_of}
+use Rattle.bd_calls.proofs.Fills.{fill_complete, fill_device, fill_short, told_done, told_well}
+use Rattle.bd_calls.proofs.Unread.{complete_unread, does_unread, for_some, makes_unread, never_refused, none_is, of_none, some_call, uses_unread}
+use Rattle.bd_calls.proofs.calling.run.Goals as goal
+
+pub returns-in-Ok-Run-clause-faultless : goal.returns-in-Ok-Run-clause-faultless
+returns-in-Ok-Run-clause-faultless g c =
+    let ran = c.run_image-ended in
+    let last = c.end_call.ensures.last (g.D.Device.fault_count ran.new.dev) (g.S.Source.fault_count ran.new.src) in
+    ended_well ran.result.result _ _ c.end_call.ensures.status (well_counts ran.result.result _ _ _ _ _ ran.ensures.cause last)
+
+pub returns-in-Ok-Run-clause-complete : goal.returns-in-Ok-Run-clause-complete
+returns-in-Ok-Run-clause-complete g c =
+    let ran = c.run_image-ended in
+    of_call _ _ (Run c.in-Ok-Run.image.now) (ap (λ f. Some (asked f)) (sym c.in-Ok-Run.field-0-is) ∙ sym c.in-Ok-Run.ensures.call)
+    (λ ready f. run_complete ran.result.result _ _ _ _ _ _ _ _ c.end_call.ensures.status ran.ensures.ran ran.ensures.cause c.end_call.ensures.later ready f)
+
+pub returns-in-Ok-Format-clause-does : goal.returns-in-Ok-Format-clause-does
+returns-in-Ok-Format-clause-does g c =
+    let made = c.format_image-result in
+    let call = c.in-Ok-Format in
+    of_call _ _ (Format call.image.now call.slots) (ap (λ f. Some (asked f)) (sym call.field-0-is) ∙ sym call.ensures.call)
+    (record {
+      end = end_of made.result;
+      status_is = c.end_call-in-Ok-Format.ensures.status;
+      replies = g.K.Sink.written made.new.sink;
+      ended = faults (g.D.Device.fault_count made.new.dev) (g.S.Source.fault_count c.args.src.now) (g.K.Sink.fault_count made.new.sink);
+      script_stays = refl;
+      takes_stay = refl;
+      said = made.ensures.said;
+      cause = cause_of made.result _ _ (is_caused_beside made.result _ _ _ _ (g.S.Source.fault_count c.args.src.now) made.ensures.cause);
+      last = c.end_call-in-Ok-Format.ensures.last _ _;
+      acked = c.end_call-in-Ok-Format.ensures.acks ∙ c.new-acks.ensures;
+    })
+
+pub returns-in-Ok-Format-clause-faultless : goal.returns-in-Ok-Format-clause-faultless
+returns-in-Ok-Format-clause-faultless g c =
+    let made = c.format_image-result in
+    let last = c.end_call-in-Ok-Format.ensures.last (g.D.Device.fault_count made.new.dev) (g.S.Source.fault_count c.args.src.now) in
+    ended_well made.result _ _ c.end_call-in-Ok-Format.ensures.status
+    (well_counts made.result _ _ _ _ _ (is_caused_beside made.result _ _ _ _ (g.S.Source.fault_count c.args.src.now) made.ensures.cause) last)
+
+pub returns-in-Ok-Fill-clause-does : goal.returns-in-Ok-Fill-clause-does
+returns-in-Ok-Fill-clause-does g c =
+    let filled = c.fill_image-filled in
+    let r = filled.result.ended.result in
+    let call = c.in-Ok-Fill in
+    let sink = g.K.Sink.fault_count c.args.sink.now in
+    let caused = is_caused_beside r _ sink _ sink (g.S.Source.fault_count c.args.src.now) (filled.ensures.cause sink) in
+    of_call _ _ (Fill call.image.now call.seed call.count) (ap (λ f. Some (asked f)) (sym call.field-0-is) ∙ sym call.ensures.call)
+    (inl (record {
+      end = end_of r;
+      said = tally_line filled.result.tally;
+      ran = rw c.end_fill.ensures.acks filled.ensures.ran;
+      ended = faults (g.D.Device.fault_count filled.new.dev) (g.S.Source.fault_count c.args.src.now) sink;
+      cause = cause_of r _ _ caused;
+      kept = λ none. ok_of_none r _ none caused.kept;
+      told = c.end_fill.ensures.told;
+      last = refl;
+      script_stays = refl;
+      takes_stay = refl;
+    }))
+
+pub returns-in-Ok-Fill-clause-device : goal.returns-in-Ok-Fill-clause-device
+returns-in-Ok-Fill-clause-device g c =
+    let filled = c.fill_image-filled in
+    let call = c.in-Ok-Fill in
+    of_call _ _ (Fill call.image.now call.seed call.count) (ap (λ f. Some (asked f)) (sym call.field-0-is) ∙ sym call.ensures.call)
+    (fill_device filled.result.ended.result _ _ _ _ _ _ _ _ call.image.now c.end_fill.ensures.told filled.ensures.attached, refl)
+
+pub returns-in-Ok-Fill-clause-makes : goal.returns-in-Ok-Fill-clause-makes
+returns-in-Ok-Fill-clause-makes g c =
+    let filled = c.fill_image-filled in
+    let r = filled.result.ended.result in
+    let call = c.in-Ok-Fill in
+    of_call _ _ (Fill call.image.now call.seed call.count) (ap (λ f. Some (asked f)) (sym call.field-0-is) ∙ sym call.ensures.call)
+    (λ done. ok_of_none r _ (told_done (end_of r) _ _ _ _ _ _ filled.ensures.kind c.end_fill.ensures.told done) filled.ensures.writes)
+
+pub returns-in-Ok-Fill-clause-faultless : goal.returns-in-Ok-Fill-clause-faultless
+returns-in-Ok-Fill-clause-faultless g c zero =
+    let filled = c.fill_image-filled in
+    let r = filled.result.ended.result in
+    let sink = g.K.Sink.fault_count c.args.sink.now in
+    let source = g.S.Source.fault_count c.args.src.now in
+    let well = told_well (end_of r) _ _ _ _ _ _ c.end_fill.ensures.told zero in
+    ap (λ k. faults (g.D.Device.fault_count filled.new.dev) source k) well.1
+    ∙ ok_of_none r _ well.0 (is_caused_beside r _ sink _ sink source (filled.ensures.cause sink)).kept
+
+pub returns-in-Ok-Fill-clause-later : goal.returns-in-Ok-Fill-clause-later
+returns-in-Ok-Fill-clause-later g c = record {
+  device = (c.fill_image-filled.ensures.cause 0).later.device;
+  source = omega arith;
+  sink = c.end_fill.ensures.later;
+}
+
+pub returns-in-Ok-Fill-clause-complete : goal.returns-in-Ok-Fill-clause-complete
+returns-in-Ok-Fill-clause-complete g c =
+    let filled = c.fill_image-filled in
+    let call = c.in-Ok-Fill in
+    of_call _ _ (Fill call.image.now call.seed call.count) (ap (λ f. Some (asked f)) (sym call.field-0-is) ∙ sym call.ensures.call)
+    (λ ready f. fill_complete filled.result.ended.result _ call.seed call.count _ _ _ _ _ _ _ _ _ _ _ _ (fill_short call.seed call.count (search rules))
+    filled.ensures.ran (filled.ensures.cause 0) c.end_fill.ensures.told ready f)
+
+pub returns-in-Err-Refused-clause-does : goal.returns-in-Err-Refused-clause-does
+returns-in-Err-Refused-clause-does g c = of_none _ _ (c.in-Err-Refused.ensures.refused c.in-Err-Refused.field-0-is)
+
+pub returns-in-Err-Refused-clause-device : goal.returns-in-Err-Refused-clause-device
+returns-in-Err-Refused-clause-device g c = of_none _ _ (c.in-Err-Refused.ensures.refused c.in-Err-Refused.field-0-is)
+
+pub returns-in-Err-Refused-clause-makes : goal.returns-in-Err-Refused-clause-makes
+returns-in-Err-Refused-clause-makes g c = of_none _ _ (c.in-Err-Refused.ensures.refused c.in-Err-Refused.field-0-is)
+
+pub returns-in-Err-Refused-clause-complete : goal.returns-in-Err-Refused-clause-complete
+returns-in-Err-Refused-clause-complete g c = of_none _ _ (c.in-Err-Refused.ensures.refused c.in-Err-Refused.field-0-is)
+
+pub returns-in-Err-Refused-clause-refused : goal.returns-in-Err-Refused-clause-refused
+returns-in-Err-Refused-clause-refused g c two = none_is _ (c.in-Err-Refused.ensures.refused c.in-Err-Refused.field-0-is)
+
+pub returns-in-Err-Refused-clause-by_clap : goal.returns-in-Err-Refused-clause-by_clap
+returns-in-Err-Refused-clause-by_clap g c two = c.in-Err-Refused.ensures.clap_refuses c.in-Err-Refused.field-0-is
+
+pub returns-in-Err-Refused-clause-forms : goal.returns-in-Err-Refused-clause-forms
+returns-in-Err-Refused-clause-forms g c call form two =
+    never_refused _ call form (c.in-Err-Refused.ensures.refused c.in-Err-Refused.field-0-is)
+
+pub returns-in-Err-Refused-clause-uncalled : goal.returns-in-Err-Refused-clause-uncalled
+returns-in-Err-Refused-clause-uncalled g c none = inl (c.end_refused.ensures.status, c.end_refused.ensures.line)
+
+pub returns-in-Err-NoMemory-clause-does : goal.returns-in-Err-NoMemory-clause-does
+returns-in-Err-NoMemory-clause-does g c =
+    for_some _ _ (λ call. does_unread call _ _ _ _ _ _ _ _ _ c.end_unread.ensures.status c.end_unread.ensures.acks (c.end_unread.ensures.last _ _))
+
+pub returns-in-Err-NoMemory-clause-device : goal.returns-in-Err-NoMemory-clause-device
+returns-in-Err-NoMemory-clause-device g c = for_some _ _ (λ call. uses_unread call _ _ _ _ _ _ c.end_unread.ensures.status refl refl)
+
+pub returns-in-Err-NoMemory-clause-makes : goal.returns-in-Err-NoMemory-clause-makes
+returns-in-Err-NoMemory-clause-makes g c = for_some _ _ (λ call. makes_unread g.D.Device call _ _ _ c.end_unread.ensures.status)
+
+pub returns-in-Err-NoMemory-clause-complete : goal.returns-in-Err-NoMemory-clause-complete
+returns-in-Err-NoMemory-clause-complete g c = complete_unread _ _ _ _ c.end_unread.ensures.status
+
+pub returns-in-Err-NoMemory-clause-uncalled : goal.returns-in-Err-NoMemory-clause-uncalled
+returns-in-Err-NoMemory-clause-uncalled g c none = inr (c.end_unread.ensures.status, (c.end_unread.ensures.last 0 0).0)
