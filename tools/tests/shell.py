@@ -32,7 +32,8 @@ def replies(lines, begun=()):
 
 
 REPLIES = replies(SCRIPT)
-LEFT = [replies(QUESTIONS, SCRIPT[:count]) for count in range(ACCEPTED + 1)]
+CHANGES = [line for line in SCRIPT if line.split(" ")[0] in ("create", "write", "clone")]
+LEFT = [replies(QUESTIONS, CHANGES[:count]) for count in range(ACCEPTED + 1)]
 
 
 def given(lines):
@@ -52,7 +53,8 @@ def is_front(ran, then, last, more):
     if ran.written != REPLIES[:done] + last or bool(ran.acks) != (done + more >= SYNCED):
         return False
     least = ACCEPTED if ran.acks else 0
-    return then.status == 0 and then.written in LEFT[least : done + more + 1]
+    most = sum(line in CHANGES for line in SCRIPT[:done + more])
+    return then.status == 0 and then.written in LEFT[least : most + 1]
 
 
 def pairs(shown):
