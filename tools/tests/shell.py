@@ -32,7 +32,8 @@ def replies(lines, begun=()):
 
 
 REPLIES = replies(SCRIPT)
-LEFT = [replies(QUESTIONS, SCRIPT[:count]) for count in range(ACCEPTED + 1)]
+CHANGES = [line for line in SCRIPT if line.split(" ")[0] in ("create", "write", "clone")]
+LEFT = [replies(QUESTIONS, CHANGES[:count]) for count in range(ACCEPTED + 1)]
 
 
 def given(lines):
@@ -52,7 +53,8 @@ def is_front(ran, then, last, more):
     if ran.written != REPLIES[:done] + last or bool(ran.acks) != (done + more >= SYNCED):
         return False
     least = ACCEPTED if ran.acks else 0
-    return then.status == 0 and then.written in LEFT[least : done + more + 1]
+    most = sum(line in CHANGES for line in SCRIPT[:done + more])
+    return then.status == 0 and then.written in LEFT[least : most + 1]
 
 
 def pairs(shown):
@@ -164,7 +166,7 @@ def full_image(rows, report, pieces, label):
     (ran,) = rows.show(f"# full\n{given(lines + ROOM_AGAIN)}")
     writes, rest = ran.written[:-5], ran.written[-5:]
     done = next((at for at, reply in enumerate(writes) if reply != "ok"), len(writes))
-    full = [re.fullmatch(r"full (\d+) (\d+)", reply) for reply in writes[done:] if reply != "ok"]
+    full = [re.fullmatch(r"full (\d+) (\d+)", reply) for reply in writes[done:]]
     report(ran.status == 0 and rest == ["ok", "ok", "ok", "ok", "ok g"], f"{label}: no room after it was reclaimed: {rest}")
     report(done > 10 and len(full) > 0 and len(ran.written) == len(lines) + 5, f"{label}: {done} lines done, {len(full)} full")
     report(all(told and int(told[1]) < int(told[2]) for told in full), f"{label}: another reply where it is full")
