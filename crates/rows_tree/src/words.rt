@@ -9,8 +9,12 @@ pub const WORDS: usize = 6;
 /// The words of a line. One that isn't there is empty.
 pub fn words_of(line: &str) -> [&str; WORDS] {
     let mut words = [""; WORDS];
-    for (word, text) in words.iter_mut().zip(line.split(' ')) {
-        *word = text;
+    let mut count = 0;
+    for text in line.split(' ') {
+        if count < WORDS {
+            words[count] = text;
+            count += 1;
+        }
     }
     words
 }
