@@ -1,5 +1,5 @@
 """Formats and checkpoints, through the whole program: an image's first bytes, checkpoints in turn, and what they leave
-where they are stopped at each call of the device."""
+where they are stopped at each call of the device, or at some of them where the programs are slow."""
 from plain import PlainMap
 from volume import TEARS, calls_before, cut, reply_of, script, told
 
@@ -81,9 +81,10 @@ def opened_again(rows, report):
 
 def large_file(rows, report):
     """What is written once more needs as many nodes, and the slots that only the checkpoint before the last one held
-    are free again: on 48 slots, which have room for both, as many are free after each further round."""
+    are free again: on 48 slots, which have room for both, as many are free after each further round. Slow programs make
+    two rounds."""
     tree, lines = PlainMap(), LINES + PIECES
-    for _ in range(11):
+    for _ in range(2 if rows.is_slow else 11):
         lines = lines + PIECES + ["checkpoint", "df"]
     call = rows.show(f"# a large file\n-- slots 48\n-- run\n{script(lines + ASKED)}")[-1]
     free = {reply for line, reply in zip(lines, call.written) if line == "df"}
@@ -103,7 +104,7 @@ def stopped_checkpoints(rows, report):
         lines = [line for made in MADE[:saves] for line in (made, "checkpoint")] + [MADE[saves]]
         before, after = calls_before(rows, [lines, lines + ["checkpoint"]], SLOTS)
         report(after > before, f"engine: a checkpoint makes calls: {saves}")
-        stops = [(passed, torn) for passed in range(before, after + 1) for torn in TEARS]
+        stops = rows.some([(passed, torn) for passed in range(before, after + 1) for torn in TEARS], 11)
         shown = rows.show("".join(stopped_row(lines + ["checkpoint"], *stop) for stop in stops))
         for (passed, torn), run, image, again in zip(stops, shown[::3], shown[1::3], shown[2::3]):
             is_done = run.written.count("ok") == len(lines) + 1
@@ -136,7 +137,7 @@ def stopped_formats(rows, report):
     for has_image in (False, True):
         begun = "> mkdir /a\n> checkpoint\n" if has_image else f"-- blank {SLOTS}\n"
         every = rows.show(f"# a format\n{begun}-- format {SLOTS}\n")[-1].calls
-        stops = [(passed, torn) for passed in range(every + 1) for torn in TEARS]
+        stops = rows.some([(passed, torn) for passed in range(every + 1) for torn in TEARS], 11)
         count = 3 if has_image else 2
         calls = rows.show("".join(
             f"# stopped after {passed} calls, {torn}\n{begun}-- format {SLOTS}\n{cut(passed, torn)}-- again\n> list /\n"

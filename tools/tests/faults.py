@@ -1,7 +1,7 @@
 """What fails: a device at each of its calls in turn, and the power at each call, with each way of tearing.
 
 After each the image is read again: it has the tree after as many commands as it counts, which are accepted ones, and
-those among them that a sync, a checkpoint or a reclaiming kept.
+those among them that a sync, a checkpoint or a reclaiming kept. Slow programs are stopped at some of these calls.
 """
 from rich import RICH, SLOTS
 from script import KEEPING, Lines, questions, shown
@@ -141,7 +141,7 @@ class Script:
         return {len(stopped.written) - 1 for stopped, _asked in calls}
 
 
-def cut_off(rows, report, script, least, step):
+def cut_off(rows, report, script, least, step, share):
     """A script that is cut off at every so many calls of the device, the power then being lost: each way of tearing in
     turn where that is more than one call, and else each at each call."""
     calls = script.calls(rows)
@@ -149,9 +149,9 @@ def cut_off(rows, report, script, least, step):
     cuts = range(1, (calls or 0) + 1, step)
     hows = [[f"-- fuse {cut} {how}"] for index, cut in enumerate(cuts)
             for how in (TEARS if step == 1 else [TEARS[index % len(TEARS)]])]
-    at = script.stopped(rows, report, hows)
+    at = script.stopped(rows, report, rows.some(hows, share))
     early = sum(line in at for line, text in enumerate(script.lines.lines) if text.startswith("write "))
-    report(step == 1 or early >= 5, f"{script.label}: {early} lines wrote nodes early")
+    report(step == 1 or rows.is_slow or early >= 5, f"{script.label}: {early} lines wrote nodes early")
 
 
 def failing(rows, report, script, least):
@@ -160,10 +160,10 @@ def failing(rows, report, script, least):
     report(calls is not None and calls >= least, f"{script.label}: {calls} calls")
     hows = [[f"-- fail {call}"] for call in range(1, (calls or 0) + 1)]
     hows += [[f"-- fail {call}", f"-- crash {TEARS[call % len(TEARS)]}"] for call in range(1, (calls or 0) + 1)]
-    script.stopped(rows, report, hows)
+    script.stopped(rows, report, rows.some(hows, 41))
 
 
 def test(rows, report):
-    cut_off(rows, report, Script("a short script", 24, SHORT, SHORT_QUESTIONS), 100, 1)
-    cut_off(rows, report, Script("a long script", 80, LONG, LONG_QUESTIONS), 500, 7)
+    cut_off(rows, report, Script("a short script", 24, SHORT, SHORT_QUESTIONS), 100, 1, 29)
+    cut_off(rows, report, Script("a long script", 80, LONG, LONG_QUESTIONS), 500, 7, 9)
     failing(rows, report, Script("lines on a rich image", SLOTS, MORE, MORE_QUESTIONS, RICH), 300)

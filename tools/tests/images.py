@@ -130,18 +130,18 @@ def damaged(block):
     return 4, [b"fault damaged %d" % block]
 
 
-def new_images(betr, report):
+def new_images(rows, report):
     """A format makes the bytes of a new image, whatever the slots and log blocks had before that it doesn't use."""
-    with Image(betr, 0, {}) as image:
-        subprocess.run([betr, "format", image.path, "24"], stdout=subprocess.PIPE, check=True)
+    with Image(rows.betr, 0, {}) as image:
+        subprocess.run([rows.betr, "format", image.path, "24"], stdout=subprocess.PIPE, check=True)
         for number in range(FIRST_SLOT + SLOT_BLOCKS * 24):
             report(image.begins(number, NEW.get(number, b"")), f"images: block {number} of a new image")
 
 
-def superblocks(betr, report):
+def superblocks(rows, report):
     """Each superblock is live or damaged: a batch that is synced has the epoch of the live one."""
-    for label, changes, epoch, block in SUPERBLOCKS:
-        with Image(betr, 516, HALVES) as image:
+    for label, changes, epoch, block in rows.some(SUPERBLOCKS, 3):
+        with Image(rows.betr, 516, HALVES) as image:
             for (number, place), byte in changes.items():
                 image.set(number, place, bytes([byte]))
             found = image.run(b"mkdir /a")
@@ -150,14 +150,14 @@ def superblocks(betr, report):
                 is_such = image.begins(log + 1, batch([MKDIR], of)) if of == epoch else image.begins(log, b"")
                 report(is_such, f"images: the log of epoch {of} after a superblock with {label}")
     for blocks in (0, 3, 515, 516):
-        with Image(betr, blocks, {}) as image:
+        with Image(rows.betr, blocks, {}) as image:
             report(image.run() == damaged(0), f"images: {blocks} blocks of zeros")
 
 
-def tables(betr, report):
+def tables(rows, report):
     """The table of a new image, with other bytes."""
-    for label, changes, block in TABLES:
-        with Image(betr, 516, {**NEW, slot_block(23): ROOT}) as image:
+    for label, changes, block in rows.some(TABLES, 3):
+        with Image(rows.betr, 516, {**NEW, slot_block(23): ROOT}) as image:
             for place, byte in changes.items():
                 image.set(slot_block(1), place, bytes([byte]))
             found = image.run(b"stat /")
@@ -172,15 +172,16 @@ def large(betr, nodes, slots, count):
     return Image(betr, slot_block(slots), parts)
 
 
-def large_tables(betr, report):
-    """Tables of one slot and of more are read, if they fit, and are written again with the root in another slot."""
-    for nodes, slots, count, block in LARGE:
-        with large(betr, nodes, slots, count) as image:
+def large_tables(rows, report):
+    """Tables of one slot and of more are read, if they fit, and are written again with the root in another slot. Slow
+    programs are given the first ones, which are the smaller ones."""
+    for nodes, slots, count, block in LARGE[:3] if rows.is_slow else LARGE:
+        with large(rows.betr, nodes, slots, count) as image:
             want = (0, [b"ok dir 0000"]) if block is None else damaged(block)
             report(image.run(b"stat /") == want, f"images: a table of {nodes} nodes in {count} slots")
-    for nodes, slots in WRITTEN:
+    for nodes, slots in WRITTEN[:1] if rows.is_slow else WRITTEN:
         count = -(-(24 * nodes + 32) // (SLOT_BLOCKS * BLOCK))
-        with large(betr, nodes, slots, count) as image:
+        with large(rows.betr, nodes, slots, count) as image:
             found = image.run(b"mkdir /a", b"checkpoint")
             report(found == (0, [b"ok", b"ok"]), f"images: a table of {nodes} nodes is written")
             report(table_of(image, 3) == table_but_root(table(nodes, count)), f"images: a table of {nodes} nodes has its bytes")
@@ -201,24 +202,24 @@ def table_but_root(data):
     return data[: size - 8] + data[size - 4 : size]
 
 
-def batches(betr, report):
+def batches(rows, report):
     """A batch stands after its commit block, is read again in both halves, and each damage names its body's first block."""
-    with Image(betr, 516, NEW) as image:
+    with Image(rows.betr, 516, NEW) as image:
         report(image.run(b"mkdir /a", b"sync", b"sync") == (0, [b"ok"] * 3), "images: a batch is synced")
         is_such = [image.begins(4, b"\1"), image.begins(5, batch([MKDIR])), image.begins(6, b"")]
         report(is_such == [True] * 3, "images: a batch stands after its commit block, and one that isn't committed after it")
     for epoch, log in (1, LOGS["A"]), (2, LOGS["B"]):
         parts = {**HALVES, 2: bytes([epoch - 1]), log: b"\1", log + 1: batch([MKDIR], epoch)}
-        with Image(betr, 516, parts) as image:
+        with Image(rows.betr, 516, parts) as image:
             report(image.run(b"list /") == (0, [b"ok a/"]), f"images: a batch of epoch {epoch} is read")
             report(image.run(b"remove /a") == (0, [b"ok"]), f"images: a log of epoch {epoch} goes on after its batch")
             is_such = image.begins(log + 2, b"\1") and image.begins(log + 3, batch([REMOVE], epoch)) and image.begins(log + 4, b"")
             report(is_such, f"images: the second batch of epoch {epoch}")
     for place, byte in BATCH_ROWS:
-        with Image(betr, 516, {**NEW, 4: b"\1", 5: batch([MKDIR])}) as image:
+        with Image(rows.betr, 516, {**NEW, 4: b"\1", 5: batch([MKDIR])}) as image:
             image.set(5, place, bytes([byte]))
             report(image.run(b"list /") == damaged(5), f"images: a batch whose byte {place} is {byte}")
-    with Image(betr, 516, {**NEW, 4: b"\2", 5: batch([MKDIR])}) as image:
+    with Image(rows.betr, 516, {**NEW, 4: b"\2", 5: batch([MKDIR])}) as image:
         report(image.run(b"list /") == (0, [b"ok"]), "images: a batch that isn't committed")
 
 
@@ -234,33 +235,33 @@ def writes(size):
     return lines, records
 
 
-def rooms(betr, report):
+def rooms(rows, report):
     """A block has room for 4,072 bytes of records and a batch for 253,928; where one more byte has no room, a checkpoint comes first."""
     for size, blocks in (4_072, 1), (4_073, 2), (ROOM, 62):
         lines, records = writes(size)
-        with Image(betr, 516, NEW) as image:
+        with Image(rows.betr, 516, NEW) as image:
             report(image.run(*lines, b"sync") == (0, [b"ok"] * (len(lines) + 1)), f"images: {size} bytes of records are synced")
             is_such = image.begins(4, b"\1") and image.begins(5, batch(records), blocks) and image.begins(5 + blocks, b"")
             report(is_such and image.begins(2, b""), f"images: {size} bytes of records take {blocks} blocks")
             report(image.run(b"stat /a")[1] == [b"ok file 2048 0000"], f"images: {size} bytes of records are read")
     lines, records = writes(ROOM + 1)
-    with Image(betr, 516, NEW) as image:
+    with Image(rows.betr, 516, NEW) as image:
         report(image.run(*lines) == (0, [b"ok"] * len(lines)), "images: a byte more than a log has room for")
         is_such = image.begins(2, b"\1") and image.begins(68, b"\1") and image.begins(69, batch(records[-1:], 2))
         report(is_such and image.begins(4, b""), "images: a byte more than a log has room for makes a checkpoint")
 
 
-def turns(betr, report):
+def turns(rows, report):
     """After a checkpoint the log begins anew in the other half, and what waited isn't in it."""
-    with Image(betr, 516, NEW) as image:
+    with Image(rows.betr, 516, NEW) as image:
         report(image.run(b"mkdir /a", b"checkpoint", b"remove /a") == (0, [b"ok"] * 3), "images: a turn of the log")
         report(image.begins(4, b"") and image.begins(69, batch([REMOVE], 2)), "images: a turn of the log begins anew")
 
 
-def locks(betr, report):
+def locks(rows, report):
     """An image is another run's until that ends, and then what it synced is there."""
-    with Image(betr, 516, NEW) as image:
-        with subprocess.Popen([betr, "run", image.path], stdin=subprocess.PIPE, stdout=subprocess.PIPE) as first:
+    with Image(rows.betr, 516, NEW) as image:
+        with subprocess.Popen([rows.betr, "run", image.path], stdin=subprocess.PIPE, stdout=subprocess.PIPE) as first:
             first.stdin.write(b"mkdir /a\nsync\n")
             first.stdin.flush()
             report(first.stdout.readline() + first.stdout.readline() == b"ok\nok\n", "images: a run that goes on")
@@ -273,4 +274,4 @@ def locks(betr, report):
 def test(rows, report):
     """The section of `bin/test`."""
     for section in (new_images, superblocks, tables, large_tables, batches, rooms, turns, locks):
-        section(rows.betr, report)
+        section(rows, report)

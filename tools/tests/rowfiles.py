@@ -33,10 +33,16 @@ class Image:
 
 
 class Rows:
-    """The two programs. `betr` is the path of the one, and `program` of the one that runs rows."""
+    """The two programs. `betr` is the path of the one, and `program` of the one that runs rows. They are slow where one
+    of them isn't proved, which `bin/program` keeps in a folder `unproved`."""
 
     def __init__(self, betr, program):
         self.betr, self.program = betr, program
+        self.is_slow = any("unproved" in Path(path).parts for path in (betr, program))
+
+    def some(self, cases, share):
+        """All of these cases, or each `share`th one, from the first on, where the programs are slow."""
+        return list(cases)[:: share if self.is_slow else 1]
 
     def run(self, words, text, name):
         """What rows_betr prints for a text, in lines."""

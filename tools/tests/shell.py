@@ -1,5 +1,6 @@
 """Runs of a shell in which one call of the device, the source or the sink fails, each such call in turn, and what they
-leave; scripts that are cut off at each byte; walks, full images, long scripts and a bad slot.
+leave; scripts that are cut off at each byte; walks, full images, long scripts and a bad slot. Slow programs are given
+some of these calls and cuts.
 
 What is wanted comes from docs/COMMANDS.md and docs/FORMAT.md. Where these leave a choice, as what a loss of power keeps
 of commands that weren't acknowledged, each is right.
@@ -64,7 +65,7 @@ def pairs(shown):
 def each_call(rows, calls, directives):
     """For each call of the device, the run with what `directives` gives for it, and the run after it. The ways of
     tearing take turns."""
-    texts = [run_with(f"call {call}", directives(call), TEARS[call % 3]) for call in range(1, calls + 1)]
+    texts = [run_with(f"call {call}", directives(call), TEARS[call % 3]) for call in rows.some(range(1, calls + 1), 13)]
     return [(ran, then) for ran, then in rows.show_each(texts)]
 
 
@@ -87,16 +88,18 @@ def failing_device(rows, report):
 
 def failing_takes(rows, report):
     """The script has 129 bytes, which are 19 takes of up to seven; after `stop` there is none."""
-    text = "".join(run_with(f"take {take}", ["piece 7", f"take {take}"], "old") for take in range(1, 23))
-    for take, (ran, then) in enumerate(pairs(rows.show(text)), 1):
+    takes = rows.some(range(1, 23), 6)
+    text = "".join(run_with(f"take {take}", ["piece 7", f"take {take}"], "old") for take in takes)
+    for take, (ran, then) in zip(takes, pairs(rows.show(text))):
         last, status = (["fault source"], 5) if take <= 19 else ([], 0)
         report(ran.status == status and is_front(ran, then, last, 0), f"failing take {take}: {ran.written} {then.written}")
 
 
 def failing_puts(rows, report):
     """Each of the twelve replies is one put; the command whose reply isn't taken was executed."""
-    text = "".join(run_with(f"put {put}", [f"put {put}"], "old") for put in range(1, 15))
-    for put, (ran, then) in enumerate(pairs(rows.show(text)), 1):
+    puts = rows.some(range(1, 15), 4)
+    text = "".join(run_with(f"put {put}", [f"put {put}"], "old") for put in puts)
+    for put, (ran, then) in zip(puts, pairs(rows.show(text))):
         more, status = (1, 9) if put <= 12 else (0, 0)
         report(ran.status == status and is_front(ran, then, [], more), f"failing put {put}: {ran.written} {then.written}")
 
@@ -108,11 +111,12 @@ OVER_A_BORDER = ["create /f", "write /f 1022 616263", "stat /f", "read /f 1020 5
 def cut_scripts(rows, report, lines):
     """A script that is cut off after each byte gives no fault, and its whole lines their replies."""
     script = "".join(line + "\n" for line in lines)
-    shown = rows.show("".join(f"# cut {cut}\n-- run\n-- cut {cut}\n{given(lines)}" for cut in range(len(script) + 1)))
-    for cut, ran in enumerate(shown):
+    cuts = rows.some(range(len(script) + 1), 11)
+    shown = rows.show("".join(f"# cut {cut}\n-- run\n-- cut {cut}\n{given(lines)}" for cut in cuts))
+    for cut, ran in zip(cuts, shown):
         want = replies(script[:cut].splitlines())
         report(ran.status == 0 and ran.written == want, f"the first {cut} bytes: {ran.written}, and not {want}")
-    report(len(shown) == len(script) + 1, "as many rows as bytes")
+    report(len(shown) == len(cuts), "as many rows as cuts")
 
 
 # What may be listed once so many lines were answered by a run that was stopped: what the sync made durable, and what
@@ -127,7 +131,7 @@ def stopped_run(rows, report):
     whole = rows.show(f"# no call fails\n{given(STOPPED)}")[0]
     report(whole.status == 0 and whole.acks == [1, 2] and whole.calls > 10, f"a run with a sync: {whole.calls} {whole.acks}")
     texts = [f"# call {call}\n-- run\n-- fuse {call} {TEARS[call % 3]}\n{given(STOPPED)}-- again\n> list /\n"
-             for call in range(1, whole.calls + 1)]
+             for call in rows.some(range(1, whole.calls + 1), 7)]
     for ran, then in rows.show_each(texts):
         done = ran.written[:-1]
         is_right = ran.status == 3 and ran.written[-1:] == ["fault device"] and done == ["ok"] * len(done) and is_last(ran)
@@ -180,9 +184,9 @@ def full_images(rows, report):
 
 
 def worn_level(rows, report):
-    """Clones of the root add a level each, at most, until a level is worn. A slow program that isn't proved makes a
-    hundred of them, which wear none."""
-    if "unproved" in rows.program:
+    """Clones of the root add a level each, at most, until a level is worn. A slow program makes a hundred of them,
+    which wear none."""
+    if rows.is_slow:
         (ran,) = rows.show("# clones\n-- slots 4200\n" + given(f"clone / /s{at}" for at in range(100)))
         report(ran.status == 0 and ran.written == ["ok"] * 100, f"a hundred clones: {ran.written[-1:]}")
         return
@@ -194,8 +198,8 @@ def worn_level(rows, report):
 
 def long_script(rows, report):
     """A script of more than 16,777,216 bytes is too long; its lines before have their replies. They are empty, or 63
-    bytes long where the program is a slow one that isn't proved."""
-    width = 64 if "unproved" in rows.betr else 1
+    bytes long where the program is slow."""
+    width = 64 if rows.is_slow else 1
     line, count = b"y" * (width - 1) + b"\n", 16_777_216 // width
     with tempfile.TemporaryDirectory() as folder:
         image = str(Path(folder) / "image")
@@ -263,17 +267,19 @@ def small_fill(rows, report, folder):
 
 def large_fills(rows, report, folder):
     """A fill of 5,000 lines more tells the same on two new images: how often a run of its lines answers each kind,
-    whose replies are those of the plain map, but to lines that have no room."""
-    lines = lines_of_fills(5008)
+    whose replies are those of the plain map, but to lines that have no room. Slow programs make 200."""
+    count = 200 if rows.is_slow else 5000
+    lines = lines_of_fills(8 + count)
     image = str(Path(folder) / "lines")
     subprocess.run([rows.betr, "format", image, "512"], stdout=subprocess.DEVNULL, check=True)
     script = "".join(line + "\n" for line in lines)
     run = subprocess.run([rows.betr, "run", image], input=script, stdout=subprocess.PIPE, text=True, check=False)
     answers = run.stdout.splitlines()
-    report(run.returncode == 0 and len(answers) == 5008, f"the lines of a fill: {len(answers)} answers")
-    want = [5008] + kinds_of(Tree(), lines, answers)
-    first, second = (filled(rows, folder, name, 5000) for name in ("first", "second"))
-    report(len(want) == 4 and first == second == want and sum(want[1:]) == 5008, f"fills: {first}, {second}, and not {want}")
+    report(run.returncode == 0 and len(answers) == 8 + count, f"the lines of a fill: {len(answers)} answers")
+    want = [8 + count] + kinds_of(Tree(), lines, answers)
+    first, second = (filled(rows, folder, name, count) for name in ("first", "second"))
+    is_right = len(want) == 4 and first == second == want and sum(want[1:]) == 8 + count
+    report(is_right, f"fills: {first}, {second}, and not {want}")
 
 
 def fills(rows, report):

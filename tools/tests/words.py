@@ -108,13 +108,13 @@ def counts(written):
     return b"fill %d ok %d no %d full %d\n" % (len(words), *(words.count(word) for word in (b"ok", b"no", b"full")))
 
 
-def fills(betr, report, fresh):
+def fills(rows, report, fresh):
     """Each fill executes the lines that the rule makes: it tells the counts of their replies, and leaves the image byte for byte
     as a run of these lines does."""
-    for words, seed, count in FILLS:
+    for words, seed, count in rows.some(FILLS, 5):
         label = f"words: fill {words}"
         script = subprocess.run([LINES, str(seed), str(8 + count)], stdout=subprocess.PIPE, check=True).stdout
-        with Folder(betr) as folder, Folder(betr) as other:
+        with Folder(rows.betr) as folder, Folder(rows.betr) as other:
             for each in folder, other:
                 (each.path / "img").write_bytes(fresh)
             found = folder.call(["fill", *words], b"mkdir /other\n")
@@ -124,7 +124,7 @@ def fills(betr, report, fresh):
             is_same = (folder.path / "img").read_bytes() == (other.path / "img").read_bytes()
             report(is_same and folder.names() == ["img"], f"{label}: the image")
     for words in [words for words, _, _ in FILLS] + [GREATEST]:
-        with Folder(betr) as folder:
+        with Folder(rows.betr) as folder:
             found = folder.call(["fill", *words])
             report(found == (3, NOTHING_FILLED + NO_IMAGE) and folder.names() == [], f"words: fill {words} without an image")
 
@@ -145,5 +145,5 @@ def test(rows, report):
     """The section of `bin/test`."""
     runs(rows.betr, report, made(rows.betr, 24))
     formats(rows.betr, report)
-    fills(rows.betr, report, made(rows.betr, 512))
+    fills(rows, report, made(rows.betr, 512))
     refused(rows.betr, report)
