@@ -26,13 +26,15 @@ ZEROS = [2, 4] + list(range(133, 148)) + list(range(149, 164))
 
 
 def fresh_images(rows, report):
-    """The bytes of a new image on a device that had one byte everywhere."""
+    """The bytes of a new image on a device that had one byte everywhere, or in some blocks where the programs are
+    slow."""
+    blocks = sorted({*BEGUN, *ZEROS, *rows.some(range(BLOCKS), 20)})
     for byte in ("00", "01", "ee"):
         full = f"{{{byte}*{BLOCK}}}"
         text = [f"# the bytes of a new image where all were {byte}", f"-- blank {SLOTS}"]
-        text += [f"-- set {block} 0 {full}" for block in range(BLOCKS)]
+        text += [f"-- set {block} 0 {full}" for block in blocks]
         text += [f"-- format {SLOTS}", "ok"]
-        for block in range(BLOCKS):
+        for block in blocks:
             begun = BEGUN.get(block, "00" if block in ZEROS else None)
             text.append(f"-- begins {block} {begun}" if begun else f"-- bytes {block} 0 {full}")
         told(rows, report, "\n".join(text) + "\n")
