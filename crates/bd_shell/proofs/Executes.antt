@@ -12,10 +12,11 @@ use Rattle.bd_io.proofs.Written.{append_known-twice}
 use Rattle.bd_node.proofs.Lookup.{each_both}
 use Rattle.bd_script.specs.Lines.{LineMeaning, line_of, is_stop}
 use Rattle.bd_script.specs.Replies.{line_reply_line}
-use Rattle.bd_shell.specs.Transcript.{State, Exchange, IsAnswered, text, executed}
+use Rattle.bd_shell.specs.Transcript.{Output, State, Exchange, IsAnswered, HasAcked, durable, text, executed}
 use Rattle.bd_shell.specs.Session.{Executes}
 use Rattle.bd_shell.specs.Shell.{ExecutesOne, last_lines}
 use Rattle.bd_shell.proofs.Transcripts.{text-append, executed-append, transcript_none, transcript_one, transcript_more}
+use Rattle.bd_shell.proofs.Acks.{durable-append, acks_none, acks_then, acks_as, acks_kept, acks_of}
 
 pub append_known-nil : (w : Option (List ℕ)) → append_known w [] ≡ w
 append_known-nil None = refl
@@ -29,42 +30,62 @@ text-twice xs ys a b c first second =
     ∙ ap (append_known a) (sym (text-append xs ys))
 
 -- no line
-pub executes_none : (first : State → Type 0) (w : Option (List ℕ)) → Executes first first [] w w
+pub executes_none : (first : State → Type 0) (w : Output) → Executes first first [] w w
 executes_none first w = record {
   exchanges = [];
   answered = tt;
   lines_are = refl;
-  written = sym (append_known-nil w);
+  written = sym (append_known-nil w.written);
+  acked = acks_none w.acks;
   runs = λ s h. transcript_none s first h;
 }
 
 -- one line
-pub executes_one : (first last : State → Type 0) (l : LineMeaning) (a b : Option (List ℕ)) → ExecutesOne first last l a b
+pub executes_one : (first last : State → Type 0) (l : LineMeaning) (a b : Output) → ExecutesOne first last l a b
     → Executes first last (l ∷ []) a b
 executes_one first last l a b x = record {
   exchanges = record { line = l; said = x.said } ∷ [];
   answered = ((x.answer, x.one_line), tt);
   lines_are = refl;
-  written = x.written ∙ ap (append_known a) (sym (append-nil (line_reply_line x.said)));
+  written = x.written ∙ ap (append_known a.written) (sym (append-nil (line_reply_line x.said)));
+  acked = x.acked;
   runs = λ s h. transcript_one s l x.said last (x.replies s h);
 }
 
 -- some lines, and then more
-pub executes_more : (first mid last : State → Type 0) (ls ms : List LineMeaning) (a b c : Option (List ℕ)) → Executes first mid ls a b
+pub executes_more : (first mid last : State → Type 0) (ls ms : List LineMeaning) (a b c : Output) → Executes first mid ls a b
     → Executes mid last ms b c → Executes first last (ls ++ ms) a c
 executes_more first mid last ls ms a b c x y = record {
   exchanges = x.exchanges ++ y.exchanges;
   answered = each_both IsAnswered x.exchanges y.exchanges x.answered y.answered;
   lines_are = executed-append x.exchanges y.exchanges ∙ ap (λ l. l ++ executed y.exchanges) x.lines_are
       ∙ ap (λ l. ls ++ l) y.lines_are;
-  written = text-twice x.exchanges y.exchanges a b c x.written y.written;
+  written = text-twice x.exchanges y.exchanges a.written b.written c.written x.written y.written;
+  acked = acks_as _ _ a.acks c.acks (sym (durable-append ls ms)) (acks_then (durable ls) (durable ms) a.acks b.acks c.acks x.acked y.acked);
   runs = λ s h. transcript_more s x.exchanges y.exchanges mid last (x.runs s h) y.runs;
 }
 
 -- the same lines, named otherwise
-pub executes_as : (first last : State → Type 0) (ls ms : List LineMeaning) (a b : Option (List ℕ)) → ls ≡ ms
+pub executes_as : (first last : State → Type 0) (ls ms : List LineMeaning) (a b : Output) → ls ≡ ms
     → Executes first last ls a b → Executes first last ms a b
 executes_as first last ls ms a b same x = subst (λ l. Executes first last l a b) same x
+
+-- nothing was written or acknowledged since
+pub executes_kept : (first last : State → Type 0) (ls : List LineMeaning) (a b c : Output) → Executes first last ls a b → c.written ≡ b.written
+    → c.acks ≡ b.acks → Executes first last ls a c
+executes_kept first last ls a b c x same acks = record {
+  exchanges = x.exchanges;
+  answered = x.answered;
+  lines_are = x.lines_are;
+  written = same ∙ x.written;
+  acked = acks_kept (durable ls) a.acks b.acks c.acks acks x.acked;
+  runs = x.runs;
+}
+
+-- the acknowledgements of what was executed
+pub executes_acked : (first last : State → Type 0) (ls : List LineMeaning) (a b : Output) → (x : Executes first last ls a b)
+    → HasAcked (durable (executed x.exchanges)) a.acks b.acks
+executes_acked first last ls a b x = acks_of ls (executed x.exchanges) a.acks b.acks (sym x.lines_are) x.acked
 
 -- what is held at the end is a line where it isn't empty
 pub last_some : (line same : List ℕ) → same ≡ line → 0 < length line → last_lines line ≡ line_of same ∷ []

@@ -18,11 +18,12 @@ use Rattle.bd_script.specs.Lines.{LineMeaning, HasNoNewline, held_limit, line_of
 use Rattle.bd_script.proofs.CutLines.{no_newline-open_line, whole_lines-newline, open_line-newline, whole_lines-more, open_line-more, whole_lines-none, open_line-none, line_of-held, held-append}
 use Rattle.bd_shell.specs.declared.fault.Fault.{Fault}
 use Rattle.bd_shell.specs.declared.fault.Fault.TheVariants.{Device, Damaged, Source, Memory, TooLong, Worn, Sink}
-use Rattle.bd_shell.specs.Transcript.{State, Exchange, IsAnswered, executed, meanings}
+use Rattle.bd_shell.specs.Transcript.{Output, State, Exchange, IsAnswered, HasAcked, durable, executed, meanings}
 use Rattle.bd_shell.specs.Session.{Executes, HasNext, Leaves, breaks}
 use Rattle.bd_shell.specs.Shell.{completed, IsHeld, CutsAt, HasMore, RunFails, BreaksOff}
 use Rattle.bd_shell.proofs.Transcripts.{up_to_stop-none, up_to_stop-append, executed-append, transcript_one, transcript_more, transcript_as}
-use Rattle.bd_shell.proofs.Executes.{executes_more, executes_as}
+use Rattle.bd_shell.proofs.Acks.{acks_kept, acks_joined}
+use Rattle.bd_shell.proofs.Executes.{executes_more, executes_as, executes_acked}
 use Rattle.bd_shell.proofs.Left.{leaves_worn}
 
 -- what is held has no newline
@@ -70,14 +71,14 @@ not_break (Break b) h = absurd (h b refl)
 -- ---- where a piece stands
 
 -- a piece of which a front was fed, its complete lines executed, and what of the next one is held
-pub record FedTo (first now : State → Type 0) (begun piece rest line : List ℕ) (old new : Option (List ℕ)) : Type 0 where
+pub record FedTo (first now : State → Type 0) (begun piece rest line : List ℕ) (old new : Output) : Type 0 where
   pub front : List ℕ
   pub piece_is : piece ≡ front ++ rest
   pub no_stop : list_any is_stop (meanings (begun ++ front)) ≡ false
   pub line_is : line ≡ held (open_line (begun ++ front))
   pub ran : Executes first now (meanings (begun ++ front)) old new
 
-pub fed_none : (first : State → Type 0) (begun piece : List ℕ) (w : Option (List ℕ)) → IsHeld begun
+pub fed_none : (first : State → Type 0) (begun piece : List ℕ) (w : Output) → IsHeld begun
     → Executes first first [] w w → FedTo first first begun piece piece begun w w
 fed_none first begun piece w held_is none =
     let empty : meanings (begun ++ []) ≡ [] = ap meanings (append-nil begun) ∙ ap (map line_of) (whole_lines-none begun (held_plain begun held_is)) in
@@ -159,7 +160,7 @@ next_line begun piece front rest x tail line is cut line_is =
     }
 
 -- the line isn't `stop`, and the piece goes on
-pub fed_more : (first mid now : State → Type 0) (begun piece rest x tail line line2 : List ℕ) (a b c : Option (List ℕ))
+pub fed_more : (first mid now : State → Type 0) (begun piece rest x tail line line2 : List ℕ) (a b c : Output)
     → (at : FedTo first mid begun piece rest line a b) → CutsAt rest x tail → is_stop (line_of (line ++ x)) ≡ false → line2 ≡ []
     → Executes mid now (line_of (line ++ x) ∷ []) b c → FedTo first now begun piece tail line2 a c
 fed_more first mid now begun piece rest x tail line line2 a b c at cut goes_on line2_is runs =
@@ -197,7 +198,7 @@ fed_stops begun piece front rest x tail line is cut line_is none stops =
           ∙ either _ _ (ap (λ (t : Bool). t || list_any is_stop next.all.0) stops);
     }
 
-pub stops_fed : (first mid now : State → Type 0) (begun piece rest x tail line : List ℕ) (a b c : Option (List ℕ))
+pub stops_fed : (first mid now : State → Type 0) (begun piece rest x tail line : List ℕ) (a b c : Output)
     → FedTo first mid begun piece rest line a b → CutsAt rest x tail → is_stop (line_of (line ++ x)) ≡ true
     → Executes mid now (line_of (line ++ x) ∷ []) b c → Executes first now (completed begun piece) a c
 stops_fed first mid now begun piece rest x tail line a b c at cut stops runs =
@@ -210,7 +211,7 @@ pub record Ended (begun piece rest line line2 : List ℕ) : Type 0 where
   pub no_stop : list_any is_stop (meanings (begun ++ piece)) ≡ false
   pub line_is : line2 ≡ held (open_line (begun ++ piece))
 
-pub fed_ends : (first now : State → Type 0) (begun piece rest line line2 : List ℕ) (a b : Option (List ℕ)) → FedTo first now begun piece rest line a b
+pub fed_ends : (first now : State → Type 0) (begun piece rest line line2 : List ℕ) (a b : Output) → FedTo first now begun piece rest line a b
     → HasNoNewline rest → line2 ≡ held (line ++ rest) → Ended begun piece rest line line2
 fed_ends first now begun piece rest line line2 a b at plain is =
     let joined : begun ++ piece ≡ (begun ++ at.front) ++ rest = ap (λ l. begun ++ l) at.piece_is ∙ sym (append_assoc begun at.front rest) in
@@ -222,7 +223,7 @@ fed_ends first now begun piece rest line line2 a b at plain is =
       line_is = is ∙ ap (λ l. held (l ++ rest)) at.line_is ∙ held-append (open_line (begun ++ at.front)) rest ∙ sym (ap held (ap open_line joined ∙ more.1));
     }
 
-pub ends_fed : (first now : State → Type 0) (begun piece rest line : List ℕ) (a b : Option (List ℕ)) → FedTo first now begun piece rest line a b
+pub ends_fed : (first now : State → Type 0) (begun piece rest line : List ℕ) (a b : Output) → FedTo first now begun piece rest line a b
     → HasNoNewline rest → Executes first now (completed begun piece) a b
 ends_fed first now begun piece rest line a b at plain =
     let end = fed_ends first now begun piece rest line (held (line ++ rest)) a b at plain refl in
@@ -233,7 +234,7 @@ ends_fed first now begun piece rest line a b at plain =
 -- ---- faults
 
 -- of a fed piece bytes are left
-more_fed : (first mid : State → Type 0) (begun piece rest line : List ℕ) (a b : Option (List ℕ)) → (at : FedTo first mid begun piece rest line a b)
+more_fed : (first mid : State → Type 0) (begun piece rest line : List ℕ) (a b : Output) → (at : FedTo first mid begun piece rest line a b)
     → is_empty rest ≡ false → HasMore begun piece at.ran.exchanges
 more_fed first mid begun piece rest line a b at some = record {
   front = at.front;
@@ -244,25 +245,32 @@ more_fed first mid begun piece rest line a b at some = record {
   some = some;
 }
 
+-- the acknowledgements of what was executed, and none since
+acked_fed : (first mid : State → Type 0) (ls : List LineMeaning) (a b c : Output) → (x : Executes first mid ls a b) → c.acks ≡ b.acks
+    → HasAcked (durable (executed x.exchanges)) a.acks c.acks
+acked_fed first mid ls a b c x acks = acks_kept (durable (executed x.exchanges)) a.acks b.acks c.acks acks (executes_acked first mid ls a b x)
+
 -- want of memory while bytes are left
-pub memory_fed : (first mid now : State → Type 0) (begun piece rest line : List ℕ) (a b c : Option (List ℕ)) → FedTo first mid begun piece rest line a b
-    → is_empty rest ≡ false → c ≡ b → ((t : State) → mid t → Leaves t now) → BreaksOff Memory first now begun piece a c
-memory_fed first mid now begun piece rest line a b c at some same stays = record {
+pub memory_fed : (first mid now : State → Type 0) (begun piece rest line : List ℕ) (a b c : Output) → FedTo first mid begun piece rest line a b
+    → is_empty rest ≡ false → c.written ≡ b.written → c.acks ≡ b.acks → ((t : State) → mid t → Leaves t now) → BreaksOff Memory first now begun piece a c
+memory_fed first mid now begun piece rest line a b c at some same acks stays = record {
   exchanges = at.ran.exchanges;
   answered = at.ran.answered;
   halts = more_fed first mid begun piece rest line a b at some;
   replied = same ∙ at.ran.written;
+  acked = acked_fed first mid _ a b c at.ran acks;
   runs = λ s h. transcript_as s at.ran.exchanges mid _ (at.ran.runs s h) (λ t g. record { told = tt; reached = stays t g });
 }
 
 -- the device's fault while bytes are left
-device_fed : (first mid now : State → Type 0) (begun piece rest line : List ℕ) (a b c : Option (List ℕ)) → FedTo first mid begun piece rest line a b
-    → is_empty rest ≡ false → c ≡ b → ((t : State) → mid t → Leaves t now) → BreaksOff Device first now begun piece a c
-device_fed first mid now begun piece rest line a b c at some same stays = record {
+device_fed : (first mid now : State → Type 0) (begun piece rest line : List ℕ) (a b c : Output) → FedTo first mid begun piece rest line a b
+    → is_empty rest ≡ false → c.written ≡ b.written → c.acks ≡ b.acks → ((t : State) → mid t → Leaves t now) → BreaksOff Device first now begun piece a c
+device_fed first mid now begun piece rest line a b c at some same acks stays = record {
   exchanges = at.ran.exchanges;
   answered = at.ran.answered;
   halts = more_fed first mid begun piece rest line a b at some;
   replied = same ∙ at.ran.written;
+  acked = acked_fed first mid _ a b c at.ran acks;
   runs = λ s h. transcript_as s at.ran.exchanges mid _ (at.ran.runs s h) (λ t g. record { told = tt; reached = stays t g });
 }
 
@@ -275,7 +283,7 @@ pub record Before (begun piece x line : List ℕ) (done : List LineMeaning) : Ty
   pub rest : List LineMeaning
   pub lines_are : completed begun piece ≡ done ++ line_of (line ++ x) ∷ rest
 
-before_next : (first mid : State → Type 0) (begun piece rest x tail line : List ℕ) (a b : Option (List ℕ)) → (at : FedTo first mid begun piece rest line a b)
+before_next : (first mid : State → Type 0) (begun piece rest x tail line : List ℕ) (a b : Output) → (at : FedTo first mid begun piece rest line a b)
     → CutsAt rest x tail → Before begun piece x line (executed at.ran.exchanges)
 before_next first mid begun piece rest x tail line a b at cut =
     let next = next_line begun piece at.front rest x tail line at.piece_is cut at.line_is in
@@ -286,22 +294,23 @@ before_next first mid begun piece rest x tail line a b at cut =
     }
 
 -- a fault at a line
-pub fails_fed : (e : Fault) (first mid now : State → Type 0) (begun piece rest x tail line : List ℕ) (a b c : Option (List ℕ))
+pub fails_fed : (e : Fault) (first mid now : State → Type 0) (begun piece rest x tail line : List ℕ) (a b c : Output)
     → FedTo first mid begun piece rest line a b → CutsAt rest x tail → RunFails e mid now (line_of (line ++ x)) b c
     → BreaksOff e first now begun piece a c
 fails_fed Device first mid now begun piece rest x tail line a b c at cut fails =
-    device_fed first mid now begun piece rest line a b c at (ap is_empty cut.bytes_are ∙ cut_some x tail) fails.unwritten
+    device_fed first mid now begun piece rest line a b c at (ap is_empty cut.bytes_are ∙ cut_some x tail) fails.unwritten fails.unacked
     (λ t g. (line_of (line ++ x), fails.leaves t g))
 fails_fed (Damaged block) first mid now begun piece rest x tail line a b c at cut fails = record {
   exchanges = at.ran.exchanges;
   answered = at.ran.answered;
   halts = more_fed first mid begun piece rest line a b at (ap is_empty cut.bytes_are ∙ cut_some x tail);
   replied = fails.unwritten ∙ at.ran.written;
+  acked = acked_fed first mid _ a b c at.ran fails.unacked;
   runs = λ s h. transcript_as s at.ran.exchanges mid _ (at.ran.runs s h) (λ t g. absurd (fails.leaves t g));
 }
 fails_fed Source first mid now begun piece rest x tail line a b c at cut fails = absurd fails
 fails_fed Memory first mid now begun piece rest x tail line a b c at cut fails =
-    memory_fed first mid now begun piece rest line a b c at (ap is_empty cut.bytes_are ∙ cut_some x tail) fails.unwritten
+    memory_fed first mid now begun piece rest line a b c at (ap is_empty cut.bytes_are ∙ cut_some x tail) fails.unwritten fails.unacked
     (λ t g. (line_of (line ++ x), fails.leaves t g))
 fails_fed TooLong first mid now begun piece rest x tail line a b c at cut fails = absurd fails
 fails_fed (Worn which) first mid now begun piece rest x tail line a b c at cut fails =
@@ -312,6 +321,7 @@ fails_fed (Worn which) first mid now begun piece rest x tail line a b c at cut f
       answered = at.ran.answered;
       halts = (line_of (line ++ x), has);
       replied = fails.unwritten ∙ at.ran.written;
+      acked = acked_fed first mid _ a b c at.ran fails.unacked;
       runs = λ s h. transcript_as s at.ran.exchanges mid _ (at.ran.runs s h) (λ t g. let wore = fails.leaves t g in
           record {
             told = record { next = line_of (line ++ x); has = has; left = wore.left; worn = wore.worn };
@@ -329,7 +339,8 @@ fails_fed Sink first mid now begun piece rest x tail line a b c at cut fails =
         before.lines_are ∙ sym (append_assoc (executed at.ran.exchanges) (line_of (line ++ x) ∷ []) before.rest)
             ∙ ap (λ l. l ++ before.rest) (sym (executed-append at.ran.exchanges (last ∷ []))),
       );
-      replied = record { front = at.ran.exchanges; last = last; exchanges_are = refl; part = subst (λ w. WrotePart (line_reply_line fails.said) w c) at.ran.written fails.part };
+      replied = record { front = at.ran.exchanges; last = last; exchanges_are = refl; part = subst (λ w. WrotePart (line_reply_line fails.said) w c.written) at.ran.written fails.part };
+      acked = acks_joined at.ran.exchanges (last ∷ []) a.acks b.acks c.acks (executes_acked first mid _ a b at.ran) fails.acked;
       runs = λ s h. transcript_as s (at.ran.exchanges ++ last ∷ []) now _
           (transcript_more s at.ran.exchanges (last ∷ []) mid now (at.ran.runs s h) (λ t g. transcript_one t (line_of (line ++ x)) fails.said now (fails.replies t g)))
           (λ t g. record { told = tt; reached = g });

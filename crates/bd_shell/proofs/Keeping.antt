@@ -21,14 +21,29 @@ use Rattle.bd_script.specs.declared.replies.LineReply.TheVariants as reply
 use Rattle.bd_view.specs.Moves.{Saves}
 use Rattle.bd_view.specs.Reclaiming.{IsReclaim}
 use Rattle.bd_view.specs.Views.{View}
-use Rattle.bd_volume.specs.Volume.{GoesBy, device_of}
+use Rattle.bd_volume.specs.Volume.{GoesBy, device_of, view_of}
 use Rattle.bd_volume.specs.declared.volume.Volume.{Volume}
 use Rattle.bd_shell.specs.declared.fault.Fault.{Fault}
+use Rattle.bd_shell.specs.declared.acknowledged.Acknowledged.{Acknowledged}
 use Rattle.bd_shell.specs.declared.outcome.Ack.{Ack}
 use Rattle.bd_shell.specs.Transcript.{Point, point, State, with_view, state_of_step, Entry, Answers, Serves, FillsCheckpoint, FillsReclaim, Follows, IsTranscript, state_after}
 use Rattle.bd_shell.specs.Crashes.{IsSafeSince}
 use Rattle.bd_shell.specs.Session.{closed}
+use Rattle.bd_shell.specs.Shell.{VolumeAt, KeptAt, device_below}
 use Rattle.bd_shell.proofs.Surviving.{safe_then, safe_more}
+
+-- the state with the volume's view, after the calls of its device
+abbrev pub moved_to : {D : Type 0} → Ghosts D → Volume D → State → State
+moved_to g w s = with_view s (view_of g w) (g.call_count (device_of w))
+
+-- the state after a command, with the volume's view, after the calls of its device
+abbrev pub stepped_to : {D : Type 0} → Ghosts D → Volume D → State → Command → State
+stepped_to g w s c = state_of_step s c (view_of g w) (g.call_count (device_of w))
+
+-- a state that follows at no fewer calls, of which `last` holds where the volume stands for it
+pub record Carries {D : Type 0} (g : Ghosts D) (w : Volume D) (s after : State) (last : State → Type 0) : Type 0 where
+  pub later : s.calls ≤ after.calls
+  pub lift : VolumeAt g w after → last after
 
 -- ---- the points
 
@@ -63,24 +78,47 @@ here_by false passed t u n same h =
 
 module _ {D : Type 0} (g : Ghosts D) where
   -- tree and count stay
-  pub keeps_view : (first : D) (since : ℕ) (v w : Volume D) (acks : List Ack) (s : State) (view : View)
+  keeps_view : (first : D) (since : ℕ) (v w : Volume D) (acks : List Ack) (s : State)
       → ((t u : ℕ) (c : Image) → t ≤ u → g.left_since (device_of v) u c → g.left_since (device_of v) t c)
-      → GoesBy g v w s.tree s.count → IsSafeSince g first since (device_of v) acks s → IsSafeSince g first since (device_of w) acks (with_view s view)
-  keeps_view first since v w acks s view earlier time safe =
-      safe_more g first since (device_of w) acks s (with_view s view) (λ p h. h) (omega arith) safe.here refl
+      → GoesBy g v w s.tree s.count → IsSafeSince g first since (device_of v) acks s → IsSafeSince g first since (device_of w) acks (moved_to g w s)
+  keeps_view first since v w acks s earlier time safe =
+      safe_more g first since (device_of w) acks (with_view s s.view (g.call_count (device_of w))) (moved_to g w s) (λ p h. h) (omega arith) safe.here refl refl
       (safe_then g first since (device_of v) (device_of w) acks s earlier time safe)
 
   -- a command
-  pub keeps_step : (first : D) (since : ℕ) (v w : Volume D) (acks : List Ack) (s : State) (c : Command) (view : View)
+  keeps_step : (first : D) (since : ℕ) (v w : Volume D) (acks : List Ack) (s : State) (c : Command)
       → ((t u : ℕ) (i : Image) → t ≤ u → g.left_since (device_of v) u i → g.left_since (device_of v) t i)
-      → GoesBy g v w s.tree s.count → IsSafeSince g first since (device_of v) acks s → IsSafeSince g first since (device_of w) acks (state_of_step s c view)
-  keeps_step first since v w acks s c view earlier time safe =
+      → GoesBy g v w s.tree s.count → IsSafeSince g first since (device_of v) acks s → IsSafeSince g first since (device_of w) acks (stepped_to g w s c)
+  keeps_step first since v w acks s c earlier time safe =
       let b : Bool = writes c && is_done (step s.tree c).1 in
-      safe_more g first since (device_of w) acks s (state_of_step s c view)
+      safe_more g first since (device_of w) acks (with_view s s.view (g.call_count (device_of w))) (stepped_to g w s c)
       (λ p h. wider_by b s.passed (point (step s.tree c).0 (s.count + accepted c (step s.tree c).1)) p h)
       (omega arith)
-      (here_by b s.passed s.tree (step s.tree c).0 s.count (stays_by (refusal_of s.tree c) s.tree c) safe.here) refl
+      (here_by b s.passed s.tree (step s.tree c).0 s.count (stays_by (refusal_of s.tree c) s.tree c) safe.here) refl refl
       (safe_then g first since (device_of v) (device_of w) acks s earlier time safe)
+
+  -- no fewer calls were made
+  calls_later : (first : D) (since : ℕ) (v w : Volume D) (acks : List Ack) (s : State) → GoesBy g v w s.tree s.count → IsSafeSince g first since (device_of v) acks s
+      → s.calls ≤ g.call_count (device_of w)
+  calls_later first since v w acks s time safe = omega (arith, time.later, safe.calls)
+
+  -- the volume moves on, with its acknowledgements as they were: tree and count stay
+  pub view_carries : (first : D) (since : ℕ) (k : Acknowledged D) (w : Volume D) (s : State)
+      → ((t u : ℕ) (c : Image) → t ≤ u → g.left_since (device_below k) u c → g.left_since (device_below k) t c)
+      → GoesBy g k.volume w s.tree s.count → KeptAt g first since k s → Carries g w s (moved_to g w s) (KeptAt g first since (record k { volume = w }))
+  view_carries first since k w s earlier time kept = record {
+    later = calls_later first since k.volume w k.acks.items s time kept.safe;
+    lift = λ at. record { at = at; safe = keeps_view first since k.volume w k.acks.items s earlier time kept.safe };
+  }
+
+  -- by a command
+  pub step_carries : (first : D) (since : ℕ) (k : Acknowledged D) (w : Volume D) (s : State) (c : Command)
+      → ((t u : ℕ) (i : Image) → t ≤ u → g.left_since (device_below k) u i → g.left_since (device_below k) t i)
+      → GoesBy g k.volume w s.tree s.count → KeptAt g first since k s → Carries g w s (stepped_to g w s c) (KeptAt g first since (record k { volume = w }))
+  step_carries first since k w s c earlier time kept = record {
+    later = calls_later first since k.volume w k.acks.items s time kept.safe;
+    lift = λ at. record { at = at; safe = keeps_step first since k.volume w k.acks.items s c earlier time kept.safe };
+  }
 
 -- ---- transcripts
 
@@ -123,7 +161,8 @@ transcript_passed s [] h p was = was
 transcript_passed s (e ∷ es) h p was = transcript_passed e.state es h.1 p (followed_passed s e.line e.said e.state h.0.follows p was)
 
 -- also once all was made durable
-pub closed_passed : (end : Option Fault) (stopped : Bool) (s : State) (es : List Entry) → IsTranscript s es → (p : Point) → Contains s.passed p → Contains (closed end stopped (state_after s es)).passed p
-closed_passed None true s es h p was = transcript_passed s es h p was
-closed_passed None false s es h p was = transcript_passed s es h p was
-closed_passed (Some e) stopped s es h p was = transcript_passed s es h p was
+pub closed_passed : (end : Option Fault) (stopped : Bool) (calls : ℕ) (s : State) (es : List Entry) → IsTranscript s es → (p : Point) → Contains s.passed p
+    → Contains (closed end stopped calls (state_after s es)).passed p
+closed_passed None true calls s es h p was = transcript_passed s es h p was
+closed_passed None false calls s es h p was = transcript_passed s es h p was
+closed_passed (Some e) stopped calls s es h p was = transcript_passed s es h p was

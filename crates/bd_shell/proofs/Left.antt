@@ -8,8 +8,8 @@ use Rattle.bd_script.specs.Lines.{LineMeaning}
 use Rattle.bd_script.specs.declared.line.Line.TheVariants.{Run, Walk, Df, Sync, Checkpoint, Reclaim, Stop}
 use Rattle.bd_view.specs.Views.{View}
 use Rattle.bd_view.specs.Moves.AreSteps.{none}
-use Rattle.bd_shell.specs.Transcript.{State}
-use Rattle.bd_shell.specs.Session.{IsLeftBy, LeavesBy, Leaves, WornBy}
+use Rattle.bd_shell.specs.Transcript.{State, with_view}
+use Rattle.bd_shell.specs.Session.{IsLeftBy, LeavesBy, Leaves, Later, WornBy}
 use Rattle.bd_shell.specs.Shell.{Wore}
 
 -- any line may leave the view
@@ -25,10 +25,19 @@ left_none (Err refusal) s = refl
 
 -- nothing was done
 pub leaves_all : (line : LineMeaning) (s : State) (at : State → Type 0) → at s → LeavesBy line s at
-leaves_all line s at h = record { left = s.view; by = left_none line s; reached = h }
+leaves_all line s at h = record { left = s.view; by = left_none line s; calls = s.calls; later = omega arith; reached = h }
 
 pub leaves_nothing : (s : State) (at : State → Type 0) → at s → Leaves s at
 leaves_nothing s at h = (Ok Walk, leaves_all (Ok Walk) s at h)
+
+-- calls of the device were made, and nothing else
+pub leaves_later : (s : State) (at : State → Type 0) → Later (with_view s s.view) at s → Leaves s at
+leaves_later s at h = (Ok Walk, record { left = s.view; by = left_none (Ok Walk) s; calls = h.calls; later = h.later; reached = h.reached })
+
+-- what holds of the state that is left, as what follows from it
+pub leaves_as : (s : State) (at to : State → Type 0) → ((t : State) → at t → to t) → Leaves s at → Leaves s to
+leaves_as s at to f h =
+    (h.0, record { left = h.1.left; by = h.1.by; calls = h.1.calls; later = h.1.later; reached = f (with_view s h.1.left h.1.calls) h.1.reached })
 
 neither_none : {A : Type 0} (o : Option A) → IsNone o → IsSome o → ⊥
 neither_none o h k = cc
@@ -45,4 +54,5 @@ left_worn which s (Ok Stop) left h = absurd h
 left_worn which s (Err refusal) left h = absurd h
 
 pub leaves_worn : (which : Counter) (s : State) (line : LineMeaning) (at : State → Type 0) → Wore which s line at → Leaves s at
-leaves_worn which s line at h = (line, record { left = h.left; by = left_worn which s line h.left h.worn; reached = h.reached })
+leaves_worn which s line at h =
+    (line, record { left = h.left; by = left_worn which s line h.left h.worn; calls = h.calls; later = h.later; reached = h.reached })

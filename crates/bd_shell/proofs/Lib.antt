@@ -1,4 +1,5 @@
 pub mod Transcripts
+pub mod Acks
 pub mod Surviving
 pub mod Keeping
 pub mod Executes

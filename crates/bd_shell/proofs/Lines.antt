@@ -1,9 +1,9 @@
 -- One line: its reply, or its fault.
-use Rattle.std.proofs.Common.{◌≡◌, ℕ, ◌⊎◌, Bool, true, false, cond, List, inl, inr, refl, sym, ap, subst, ◌∙◌, arith}
+use Rattle.std.proofs.Common.{◌≡◌, ℕ, ◌⊎◌, Bool, true, false, cond, List, [], ◌∷◌, inl, inr, refl, sym, ap, subst, ◌∙◌, arith}
 use Rattle.std.specs.declared.option.Option.{Option}
 use Rattle.std.specs.declared.result.Result.{Result}
 use Rattle.std.specs.declared.result.Result.TheVariants.{Ok, Err}
-use Rattle.std.specs.Prelude.{◌+◌, ◌^◌, ◌<◌, ◌≤◌, ◌&&◌, MatchBool, IsNone, IsSome, IfOk, IfErr}
+use Rattle.std.specs.Prelude.{◌+◌, ◌^◌, ◌<◌, ◌≤◌, ◌&&◌, MatchBool, IsNone, IsSome, IfOk, IfErr, OnOk}
 use Rattle.std.proofs.lemmas.Bool.{cases_lt}
 use Rattle.bd_command.specs.Command.{writes, is_done, accepted}
 use Rattle.bd_command.specs.declared.Command.{Command}
@@ -27,7 +27,7 @@ use Rattle.bd_view.specs.Views.{View, keys_of, free_slots, save_slots}
 use Rattle.bd_view.specs.Moves.{HasStepped, IsAccepted, Saves, IsCommandFull, IsCheckpointFull}
 use Rattle.bd_view.specs.Reclaiming.{IsReclaim, IsReclaimFull}
 use Rattle.bd_checkpoint.specs.Recovering.{IsBadIn}
-use Rattle.bd_volume.specs.Volume.{StandsFor, view_of}
+use Rattle.bd_volume.specs.Volume.{StandsFor, view_of, device_of}
 use Rattle.bd_volume.specs.Wears.{Wears, HasBegunReclaiming, WearsReclaiming}
 use Rattle.bd_volume.specs.declared.volume.Volume.{Volume}
 use Rattle.bd_volume.specs.declared.fault.Fault.{Fault as VolumeFault}
@@ -36,9 +36,12 @@ use Rattle.bd_shell.specs.declared.fault.Fault.{Fault}
 use Rattle.bd_shell.specs.declared.fault.Fault.TheVariants.{Device, Damaged, Source, Memory, TooLong, Worn, Sink}
 use Rattle.bd_io.specs.Cause.{Rose}
 use Rattle.bd_shell.specs.Fault.{Faults, IsCaused}
-use Rattle.bd_shell.specs.Transcript.{State, with_view, synced_state, IsCommandReply, IsDoneOrFull, MayGet, Follows, Moves, state_of_step, told, told_free}
-use Rattle.bd_shell.specs.Session.{IsLeftBy, LeavesBy}
+use Rattle.bd_shell.specs.Transcript.{Output, State, with_view, synced_state, IsCommandReply, IsDoneOrFull, HasAcked, MayGet, Follows, Moves, durable, told, told_free}
+use Rattle.bd_shell.specs.Session.{IsLeftBy, LeavesBy, Later}
 use Rattle.bd_shell.specs.Shell.{VolumeAt, Replies, Wore, is_stopped, counts_of, IsOutcome, IsLineFault, LineFails, NamesBad, NamesBadAt, RunFails}
+use Rattle.bd_shell.specs.declared.outcome.Ack.{Ack}
+use Rattle.bd_shell.proofs.Acks.{acks_none, acks_as}
+use Rattle.bd_shell.proofs.Keeping.{Carries, moved_to, stepped_to}
 
 -- ---- what a volume stands for after a line
 
@@ -48,13 +51,23 @@ represented g v s at = subst (λ w. Represents (keys_of w) s.tree) at.view_is at
 
 -- a volume stands for the state with its own view
 at_view : {D : Type 0} (g : Ghosts D) (v w : Volume D) (s : State) → ((t : Tree) (n : ℕ) → StandsFor g v t n → StandsFor g w t n) → VolumeAt g v s
-    → VolumeAt g w (with_view s (view_of g w))
+    → VolumeAt g w (moved_to g w s)
 at_view g v w s stays at = record { stands = stays s.tree s.count at.stands; view_is = refl }
 
 -- `last` holds of the state after the line where the volume stands for it
 replies_by : {D : Type 0} (g : Ghosts D) (v : Volume D) (s after : State) (line : LineMeaning) (said : LineReply) (last : State → Type 0)
-    → Follows s line said after → VolumeAt g v after → (VolumeAt g v after → last after) → Replies s line said last
-replies_by g v s after line said last follows at lift = record { after = after; follows = follows; represents = represented g v after at; reached = lift at }
+    → Follows s line said after → VolumeAt g v after → Carries g v s after last → Replies s line said last
+replies_by g v s after line said last follows at carries = record {
+  after = after;
+  follows = follows;
+  later = carries.later;
+  represents = represented g v after at;
+  reached = carries.lift at;
+}
+
+-- where `last` holds of it anyway
+carries_any : {D : Type 0} (g : Ghosts D) (v : Volume D) (s after : State) (last : State → Type 0) → s.calls ≤ after.calls → last after → Carries g v s after last
+carries_any g v s after last later h = record { later = later; lift = λ _. h }
 
 -- ---- replies
 
@@ -66,10 +79,9 @@ moves_by false P Q moved unmoved = unmoved refl
 pub run_replies : {D : Type 0} (g : Ghosts D) (v w : Volume D) (s : State) (line : Line) (c : Command) (said : Reply) → VolumeAt g v s → line ≡ Run c
     → IsLine line → said ≡ (step s.tree c).1 → StandsFor g w (step s.tree c).0 (s.count + accepted c said)
     → (accepted c said ≡ 1 → IsAccepted s.tree c (view_of g v) (view_of g w)) → (accepted c said ≡ 0 → view_of g w ≡ view_of g v)
-    → (last : State → Type 0) → (VolumeAt g w (state_of_step s c (view_of g w)) → last (state_of_step s c (view_of g w)))
-    → Replies s (Ok line) (reply.Command said) last
-run_replies g v w s line c said at is limits said_is stands moved unmoved last lift =
-    let after : State = state_of_step s c (view_of g w) in
+    → (last : State → Type 0) → Carries g w s (stepped_to g w s c) last → Replies s (Ok line) (reply.Command said) last
+run_replies g v w s line c said at is limits said_is stands moved unmoved last carries =
+    let after : State = stepped_to g w s c in
     let move : Moves s.tree c said (view_of g v) (view_of g w) =
     moves_by (writes c && is_done said) (IsAccepted s.tree c (view_of g v) (view_of g w)) (view_of g w ≡ view_of g v) moved unmoved in
     let follows : Follows s (Ok (Run c)) (reply.Command said) after = record {
@@ -81,13 +93,13 @@ run_replies g v w s line c said at is limits said_is stands moved unmoved last l
     replies_by g w s after (Ok line) (reply.Command said) last (subst (λ l. Follows s (Ok l) (reply.Command said) after) (sym is) follows) (record {
       stands = subst (λ r. StandsFor g w (step s.tree c).0 (s.count + accepted c r)) said_is stands;
       view_is = refl;
-    }) lift
+    }) carries
 
 -- a line that leaves the volume, with a reply that follows from the state
 stays_replies : {D : Type 0} (g : Ghosts D) (v : Volume D) (s : State) (meaning same : LineMeaning) (said : LineReply) (last : State → Type 0) → VolumeAt g v s
     → last s → meaning ≡ same → Follows s same said s → Replies s meaning said last
 stays_replies g v s meaning same said last at h is follows =
-    replies_by g v s s meaning said last (subst (λ m. Follows s m said s) (sym is) follows) at (λ _. h)
+    replies_by g v s s meaning said last (subst (λ m. Follows s m said s) (sym is) follows) at (carries_any g v s s last (omega arith) h)
 
 -- `walk` tells the walk of the view
 pub walk_replies : {D : Type 0} (g : Ghosts D) (v : Volume D) (s : State) (line : Line) (walk : WalkTaken) (last : State → Type 0) → VolumeAt g v s → last s
@@ -105,15 +117,17 @@ df_replies g v s line free slots last at h is free_is slots_is =
     )
 
 -- all is made durable, and the reply says so
-pub sync_replies : {D : Type 0} (g : Ghosts D) (v : Volume D) (s : State) (line : Line) (last : State → Type 0) → VolumeAt g v (synced_state s)
-    → last (synced_state s) → line ≡ Sync → Replies s (Ok line) reply.Done last
-sync_replies g v s line last at h is =
-    replies_by g v s (synced_state s) (Ok line) reply.Done last (subst (λ l. Follows s (Ok l) reply.Done (synced_state s)) (sym is) (refl, refl)) at (λ _. h)
+pub sync_replies : {D : Type 0} (g : Ghosts D) (v : Volume D) (s : State) (calls : ℕ) (line : Line) (last : State → Type 0) → s.calls ≤ calls
+    → VolumeAt g v (synced_state s calls) → last (synced_state s calls) → line ≡ Sync → Replies s (Ok line) reply.Done last
+sync_replies g v s calls line last later at h is =
+    replies_by g v s (synced_state s calls) (Ok line) reply.Done last (subst (λ l. Follows s (Ok l) reply.Done (synced_state s calls)) (sym is) (refl, refl)) at
+    (carries_any g v s (synced_state s calls) last later h)
 
-pub stop_replies : {D : Type 0} (g : Ghosts D) (v : Volume D) (s : State) (line : Line) (last : State → Type 0) → VolumeAt g v (synced_state s)
-    → last (synced_state s) → line ≡ Stop → Replies s (Ok line) reply.Stopped last
-stop_replies g v s line last at h is =
-    replies_by g v s (synced_state s) (Ok line) reply.Stopped last (subst (λ l. Follows s (Ok l) reply.Stopped (synced_state s)) (sym is) (refl, refl)) at (λ _. h)
+pub stop_replies : {D : Type 0} (g : Ghosts D) (v : Volume D) (s : State) (calls : ℕ) (line : Line) (last : State → Type 0) → s.calls ≤ calls
+    → VolumeAt g v (synced_state s calls) → last (synced_state s calls) → line ≡ Stop → Replies s (Ok line) reply.Stopped last
+stop_replies g v s calls line last later at h is =
+    replies_by g v s (synced_state s calls) (Ok line) reply.Stopped last (subst (λ l. Follows s (Ok l) reply.Stopped (synced_state s calls)) (sym is) (refl, refl)) at
+    (carries_any g v s (synced_state s calls) last later h)
 
 pub unread_replies : {D : Type 0} (g : Ghosts D) (v : Volume D) (s : State) (meaning : LineMeaning) (r : Refusal) (last : State → Type 0) → VolumeAt g v s → last s
     → meaning ≡ Err r → Replies s meaning (reply.Unread r) last
@@ -121,84 +135,90 @@ unread_replies g v s meaning r last at h is = stays_replies g v s meaning (Err r
 
 -- tree and count stay, and the view moves
 moved_replies : {D : Type 0} (g : Ghosts D) (v w : Volume D) (s : State) (line same : Line) (said : LineReply) → VolumeAt g v s → line ≡ same
-    → ((t : Tree) (n : ℕ) → StandsFor g v t n → StandsFor g w t n) → Follows s (Ok same) said (with_view s (view_of g w)) → (last : State → Type 0)
-    → (VolumeAt g w (with_view s (view_of g w)) → last (with_view s (view_of g w))) → Replies s (Ok line) said last
-moved_replies g v w s line same said at is stays follows last lift =
-    replies_by g w s (with_view s (view_of g w)) (Ok line) said last (subst (λ l. Follows s (Ok l) said (with_view s (view_of g w))) (sym is) follows) (at_view g v w s stays at) lift
+    → ((t : Tree) (n : ℕ) → StandsFor g v t n → StandsFor g w t n) → Follows s (Ok same) said (moved_to g w s) → (last : State → Type 0)
+    → Carries g w s (moved_to g w s) last → Replies s (Ok line) said last
+moved_replies g v w s line same said at is stays follows last carries =
+    replies_by g w s (moved_to g w s) (Ok line) said last (subst (λ l. Follows s (Ok l) said (moved_to g w s)) (sym is) follows) (at_view g v w s stays at) carries
 
 pub checkpoint_replies : {D : Type 0} (g : Ghosts D) (v w : Volume D) (s : State) (line : Line) → VolumeAt g v s → line ≡ Checkpoint
-    → ((t : Tree) (n : ℕ) → StandsFor g v t n → StandsFor g w t n) → Saves (view_of g v) (view_of g w) → (last : State → Type 0) → (VolumeAt g w (with_view s (view_of g w)) → last (with_view s (view_of g w)))
+    → ((t : Tree) (n : ℕ) → StandsFor g v t n → StandsFor g w t n) → Saves (view_of g v) (view_of g w) → (last : State → Type 0) → Carries g w s (moved_to g w s) last
     → Replies s (Ok line) reply.Done last
-checkpoint_replies g v w s line at is stays saves last lift =
-    moved_replies g v w s line Checkpoint reply.Done at is stays (subst (λ old. Saves old (view_of g w)) at.view_is saves, refl) last lift
+checkpoint_replies g v w s line at is stays saves last carries =
+    moved_replies g v w s line Checkpoint reply.Done at is stays (subst (λ old. Saves old (view_of g w)) at.view_is saves, refl) last carries
 
 pub reclaim_replies : {D : Type 0} (g : Ghosts D) (v w : Volume D) (s : State) (line : Line) → VolumeAt g v s → line ≡ Reclaim
-    → ((t : Tree) (n : ℕ) → StandsFor g v t n → StandsFor g w t n) → IsReclaim (view_of g v) (view_of g w) → (last : State → Type 0) → (VolumeAt g w (with_view s (view_of g w)) → last (with_view s (view_of g w)))
+    → ((t : Tree) (n : ℕ) → StandsFor g v t n → StandsFor g w t n) → IsReclaim (view_of g v) (view_of g w) → (last : State → Type 0) → Carries g w s (moved_to g w s) last
     → Replies s (Ok line) reply.Done last
-reclaim_replies g v w s line at is stays reclaims last lift =
-    moved_replies g v w s line Reclaim reply.Done at is stays (subst (λ old. IsReclaim old (view_of g w)) at.view_is reclaims, refl) last lift
+reclaim_replies g v w s line at is stays reclaims last carries =
+    moved_replies g v w s line Reclaim reply.Done at is stays (subst (λ old. IsReclaim old (view_of g w)) at.view_is reclaims, refl) last carries
 
 -- ---- too few slots
 
 pub command_fills : {D : Type 0} (g : Ghosts D) (v w : Volume D) (s : State) (line : Line) (c : Command) (free need : ℕ) → VolumeAt g v s → line ≡ Run c
     → IsLine line → ((t : Tree) (n : ℕ) → StandsFor g v t n → StandsFor g w t n)
-    → IsCommandFull c (view_of g v) (view_of g w) free need × IsNone (refusal_of s.tree c) → (last : State → Type 0) → (VolumeAt g w (with_view s (view_of g w)) → last (with_view s (view_of g w)))
+    → IsCommandFull c (view_of g v) (view_of g w) free need × IsNone (refusal_of s.tree c) → (last : State → Type 0) → Carries g w s (moved_to g w s) last
     → Replies s (Ok line) (reply.Full free need) last
-command_fills g v w s line c free need at is limits stays h last lift =
+command_fills g v w s line c free need at is limits stays h last carries =
     moved_replies g v w s line (Run c) (reply.Full free need) at is stays (record {
       limits = subst IsLine is limits;
       accepted = h.1;
       after_is = refl;
       full = subst (λ old. IsCommandFull c old (view_of g w) free need) at.view_is h.0;
-    }) last lift
+    }) last carries
 
 pub checkpoint_fills : {D : Type 0} (g : Ghosts D) (v w : Volume D) (s : State) (line : Line) (free need : ℕ) → VolumeAt g v s → line ≡ Checkpoint
     → ((t : Tree) (n : ℕ) → StandsFor g v t n → StandsFor g w t n) → IsCheckpointFull (view_of g v) free need × (w ≡ v)
-    → (last : State → Type 0) → (VolumeAt g w (with_view s (view_of g w)) → last (with_view s (view_of g w))) → Replies s (Ok line) (reply.Full free need) last
-checkpoint_fills g v w s line free need at is stays h last lift =
+    → (last : State → Type 0) → Carries g w s (moved_to g w s) last → Replies s (Ok line) (reply.Full free need) last
+checkpoint_fills g v w s line free need at is stays h last carries =
     moved_replies g v w s line Checkpoint (reply.Full free need) at is stays (
       (subst (λ old. IsCheckpointFull old free need) at.view_is h.0, ap (λ x. view_of g x) h.1 ∙ at.view_is),
       refl,
-    ) last lift
+    ) last carries
 
 pub reclaim_fills : {D : Type 0} (g : Ghosts D) (v w : Volume D) (s : State) (line : Line) (free need : ℕ) → VolumeAt g v s → line ≡ Reclaim
     → ((t : Tree) (n : ℕ) → StandsFor g v t n → StandsFor g w t n) → IsReclaimFull (view_of g v) free need (view_of g w)
-    → (last : State → Type 0) → (VolumeAt g w (with_view s (view_of g w)) → last (with_view s (view_of g w))) → Replies s (Ok line) (reply.Full free need) last
-reclaim_fills g v w s line free need at is stays h last lift =
-    moved_replies g v w s line Reclaim (reply.Full free need) at is stays (subst (λ old. IsReclaimFull old free need (view_of g w)) at.view_is h, refl) last lift
+    → (last : State → Type 0) → Carries g w s (moved_to g w s) last → Replies s (Ok line) (reply.Full free need) last
+reclaim_fills g v w s line free need at is stays h last carries =
+    moved_replies g v w s line Reclaim (reply.Full free need) at is stays (subst (λ old. IsReclaimFull old free need (view_of g w)) at.view_is h, refl) last carries
 
 -- ---- what a fault leaves
 
 pub command_leaves : {D : Type 0} (g : Ghosts D) (v w : Volume D) (s : State) (line : Line) (c : Command) → VolumeAt g v s → line ≡ Run c
     → ((t : Tree) (n : ℕ) → StandsFor g v t n → StandsFor g w t n) → HasStepped c (view_of g v) (view_of g w)
-    → (IsSome (refusal_of s.tree c) → view_of g w ≡ view_of g v) → (last : State → Type 0) → (VolumeAt g w (with_view s (view_of g w)) → last (with_view s (view_of g w)))
+    → (IsSome (refusal_of s.tree c) → view_of g w ≡ view_of g v) → (last : State → Type 0) → Carries g w s (moved_to g w s) last
     → LeavesBy (Ok line) s last
-command_leaves g v w s line c at is stays stepped refused last lift =
+command_leaves g v w s line c at is stays stepped refused last carries =
     subst (λ l. LeavesBy (Ok l) s last) (sym is) (record {
       left = view_of g w;
       by = record { stepped = subst (λ old. HasStepped c old (view_of g w)) at.view_is stepped; refused = λ some. refused some ∙ at.view_is };
-      reached = lift (at_view g v w s stays at);
+      calls = g.call_count (device_of w);
+      later = carries.later;
+      reached = carries.lift (at_view g v w s stays at);
     })
 
 pub checkpoint_leaves : {D : Type 0} (g : Ghosts D) (v w : Volume D) (s : State) (line : Line) → VolumeAt g v s → line ≡ Checkpoint
-    → ((t : Tree) (n : ℕ) → StandsFor g v t n → StandsFor g w t n) → view_of g w ≡ view_of g v → (last : State → Type 0) → (VolumeAt g w (with_view s (view_of g w)) → last (with_view s (view_of g w)))
+    → ((t : Tree) (n : ℕ) → StandsFor g v t n → StandsFor g w t n) → view_of g w ≡ view_of g v → (last : State → Type 0) → Carries g w s (moved_to g w s) last
     → LeavesBy (Ok line) s last
-checkpoint_leaves g v w s line at is stays same last lift =
-    subst (λ l. LeavesBy (Ok l) s last) (sym is) (record { left = view_of g w; by = same ∙ at.view_is; reached = lift (at_view g v w s stays at) })
+checkpoint_leaves g v w s line at is stays same last carries =
+    subst (λ l. LeavesBy (Ok l) s last) (sym is) (record { left = view_of g w; by = same ∙ at.view_is; calls = g.call_count (device_of w); later = carries.later; reached = carries.lift (at_view g v w s stays at) })
 
 pub reclaim_leaves : {D : Type 0} (g : Ghosts D) (v w : Volume D) (s : State) (line : Line) → VolumeAt g v s → line ≡ Reclaim
-    → ((t : Tree) (n : ℕ) → StandsFor g v t n → StandsFor g w t n) → HasBegunReclaiming (view_of g v) (view_of g w) → (last : State → Type 0) → (VolumeAt g w (with_view s (view_of g w)) → last (with_view s (view_of g w)))
+    → ((t : Tree) (n : ℕ) → StandsFor g v t n → StandsFor g w t n) → HasBegunReclaiming (view_of g v) (view_of g w) → (last : State → Type 0) → Carries g w s (moved_to g w s) last
     → LeavesBy (Ok line) s last
-reclaim_leaves g v w s line at is stays begun last lift =
+reclaim_leaves g v w s line at is stays begun last carries =
     subst (λ l. LeavesBy (Ok l) s last) (sym is) (record {
       left = view_of g w;
       by = subst (λ old. HasBegunReclaiming old (view_of g w)) at.view_is begun;
-      reached = lift (at_view g v w s stays at);
+      calls = g.call_count (device_of w);
+      later = carries.later;
+      reached = carries.lift (at_view g v w s stays at);
     })
 
--- a sync that fails leaves the state
-pub sync_leaves : (s : State) (line same : Line) (last : State → Type 0) → last s → line ≡ same → IsLeftBy (Ok same) s s.view → LeavesBy (Ok line) s last
-sync_leaves s line same last h is by = subst (λ l. LeavesBy (Ok l) s last) (sym is) (record { left = s.view; by = by; reached = h })
+-- a sync that fails leaves the state, but for the number of calls
+pub sync_leaves : (s : State) (line same : Line) (last : State → Type 0) → Later (with_view s s.view) last s → line ≡ same → IsLeftBy (Ok same) s s.view
+    → LeavesBy (Ok line) s last
+sync_leaves s line same last h is by =
+    subst (λ l. LeavesBy (Ok l) s last) (sym is) (record { left = s.view; by = by; calls = h.calls; later = h.later; reached = h.reached })
 
 -- its fault is the device's or memory's
 pub sync_fails : (e : Fault) (line : LineMeaning) (s : State) (last : State → Type 0) → (e ≡ Device) ⊎ (e ≡ Memory) → LeavesBy line s last → LineFails e s line last
@@ -216,13 +236,15 @@ wears_as which n m c old same new e f h = subst (λ k. Wears which k c same new)
 
 pub command_wears : {D : Type 0} (g : Ghosts D) (v w : Volume D) (s : State) (line : Line) (c : Command) (which : Counter) → VolumeAt g v s → line ≡ Run c
     → ((t : Tree) (n : ℕ) → StandsFor g v t n → StandsFor g w t n)
-    → Wears which s.count c (view_of g v) (view_of g w) × IsNone (refusal_of s.tree c) → (last : State → Type 0) → (VolumeAt g w (with_view s (view_of g w)) → last (with_view s (view_of g w)))
+    → Wears which s.count c (view_of g v) (view_of g w) × IsNone (refusal_of s.tree c) → (last : State → Type 0) → Carries g w s (moved_to g w s) last
     → Wore which s (Ok line) last
-command_wears g v w s line c which at is stays h last lift =
+command_wears g v w s line c which at is stays h last carries =
     subst (λ l. Wore which s (Ok l) last) (sym is) (record {
       left = view_of g w;
       worn = record { accepted = h.1; wears = wears_as which s.count s.count c (view_of g v) s.view (view_of g w) refl at.view_is h.0 };
-      reached = lift (at_view g v w s stays at);
+      calls = g.call_count (device_of w);
+      later = carries.later;
+      reached = carries.lift (at_view g v w s stays at);
     })
 
 -- a checkpoint isn't short of slots where it is refused otherwise
@@ -235,9 +257,9 @@ not_full e which free need worn full = cc
 
 pub checkpoint_wears : {D : Type 0} (g : Ghosts D) (v w : Volume D) (s : State) (line : Line) (which : Counter) → VolumeAt g v s → line ≡ Checkpoint
     → ((t : Tree) (n : ℕ) → StandsFor g v t n → StandsFor g w t n) → view_of g w ≡ view_of g v
-    → (free_slots (view_of g v) < save_slots (view_of g v) → ⊥) → (which ≡ Epoch) × (2 ^ 64 ≤ (view_of g v).epoch + 1) → (last : State → Type 0) → (VolumeAt g w (with_view s (view_of g w)) → last (with_view s (view_of g w)))
+    → (free_slots (view_of g v) < save_slots (view_of g v) → ⊥) → (which ≡ Epoch) × (2 ^ 64 ≤ (view_of g v).epoch + 1) → (last : State → Type 0) → Carries g w s (moved_to g w s) last
     → Wore which s (Ok line) last
-checkpoint_wears g v w s line which at is stays same not_short h last lift =
+checkpoint_wears g v w s line which at is stays same not_short h last carries =
     subst (λ l. Wore which s (Ok l) last) (sym is) (record {
       left = view_of g w;
       worn = record {
@@ -246,17 +268,21 @@ checkpoint_wears g v w s line which at is stays same not_short h last lift =
         worn = subst (λ (x : View). 2 ^ 64 ≤ x.epoch + 1) at.view_is h.1;
         left_is = same ∙ at.view_is;
       };
-      reached = lift (at_view g v w s stays at);
+      calls = g.call_count (device_of w);
+      later = carries.later;
+      reached = carries.lift (at_view g v w s stays at);
     })
 
 pub reclaim_wears : {D : Type 0} (g : Ghosts D) (v w : Volume D) (s : State) (line : Line) (which : Counter) → VolumeAt g v s → line ≡ Reclaim
-    → ((t : Tree) (n : ℕ) → StandsFor g v t n → StandsFor g w t n) → WearsReclaiming which (view_of g v) (view_of g w) → (last : State → Type 0) → (VolumeAt g w (with_view s (view_of g w)) → last (with_view s (view_of g w)))
+    → ((t : Tree) (n : ℕ) → StandsFor g v t n → StandsFor g w t n) → WearsReclaiming which (view_of g v) (view_of g w) → (last : State → Type 0) → Carries g w s (moved_to g w s) last
     → Wore which s (Ok line) last
-reclaim_wears g v w s line which at is stays h last lift =
+reclaim_wears g v w s line which at is stays h last carries =
     subst (λ l. Wore which s (Ok l) last) (sym is) (record {
       left = view_of g w;
       worn = subst (λ old. WearsReclaiming which old (view_of g w)) at.view_is h;
-      reached = lift (at_view g v w s stays at);
+      calls = g.call_count (device_of w);
+      later = carries.later;
+      reached = carries.lift (at_view g v w s stays at);
     })
 
 -- ---- what a fault of the volume is for its line
@@ -324,16 +350,31 @@ caused_ok_at g d e sink later x same kept = record {
 
 -- ---- a fault before the reply
 
--- nothing is written
-pub line_fails : (e : Fault) (first last : State → Type 0) (line : LineMeaning) (w : Option (List ℕ)) → IsLineFault e
-    → ((s : State) → first s → LineFails e s line last) → RunFails e first last line w w
-line_fails Device first last line w kind f = record { unwritten = refl; leaves = f }
-line_fails (Damaged block) first last line w kind f = record { unwritten = refl; leaves = f }
-line_fails Source first last line w kind f = absurd kind
-line_fails Memory first last line w kind f = record { unwritten = refl; leaves = f }
-line_fails TooLong first last line w kind f = absurd kind
-line_fails (Worn which) first last line w kind f = record { unwritten = refl; leaves = f }
-line_fails Sink first last line w kind f = absurd kind
+-- nothing is written or acknowledged
+pub line_fails : (e : Fault) (first last : State → Type 0) (line : LineMeaning) (a b : Output) → IsLineFault e → b.written ≡ a.written → b.acks ≡ a.acks
+    → ((s : State) → first s → LineFails e s line last) → RunFails e first last line a b
+line_fails Device first last line a b kind same acks f = record { unwritten = same; unacked = acks; leaves = f }
+line_fails (Damaged block) first last line a b kind same acks f = record { unwritten = same; unacked = acks; leaves = f }
+line_fails Source first last line a b kind same acks f = absurd kind
+line_fails Memory first last line a b kind same acks f = record { unwritten = same; unacked = acks; leaves = f }
+line_fails TooLong first last line a b kind same acks f = absurd kind
+line_fails (Worn which) first last line a b kind same acks f = record { unwritten = same; unacked = acks; leaves = f }
+line_fails Sink first last line a b kind same acks f = absurd kind
+
+-- ---- acknowledgements
+
+-- those of a line, by what it means
+pub acks_line : (line same : LineMeaning) (n : ℕ) (a b : List Ack) → line ≡ same → n ≡ durable (same ∷ []) → HasAcked n a b → HasAcked (durable (line ∷ [])) a b
+acks_line line same n a b is count h = subst (λ l. HasAcked (durable (l ∷ [])) a b) (sym is) (acks_as n (durable (same ∷ [])) a b count h)
+
+-- where the line makes nothing durable
+pub acks_still : (line same : LineMeaning) (acks : List Ack) → line ≡ same → 0 ≡ durable (same ∷ []) → HasAcked (durable (line ∷ [])) acks acks
+acks_still line same acks is count = acks_line line same 0 acks acks is count (acks_none acks)
+
+-- what holds anyway holds where a result is Ok
+pub on_ok_any : {T E : Type 0} (r : Result T E) (P : Type 0) → P → OnOk r P
+on_ok_any (Ok x) P h = h
+on_ok_any (Err e) P h = tt
 
 -- ---- a fault or a reply as that of a call above
 

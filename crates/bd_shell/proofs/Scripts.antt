@@ -23,15 +23,17 @@ use Rattle.bd_script.specs.Replies.{line_reply_line}
 use Rattle.bd_script.proofs.CutLines.{some_pieces, whole_lines-more, open_line-more, held_goes_on, line_of-held}
 use Rattle.bd_shell.specs.declared.fault.Fault.{Fault}
 use Rattle.bd_shell.specs.declared.fault.Fault.TheVariants.{Device, Damaged, Source, Memory, TooLong, Worn, Sink}
-use Rattle.bd_shell.specs.Transcript.{State, synced_state, Exchange, IsAnswered, text, executed, meanings, lines_to_run, IsFront}
-use Rattle.bd_shell.specs.Session.{end_of, Executes, HasNext, IsAtLine, Among, AllComplete, BeginsWith, TakenAt, IsCutShort, IsCutAfter, Replied, Tells, Ends, has_stop, closed, breaks, ClosedAt, ToldAt, EndsIn, Session}
+use Rattle.bd_shell.specs.declared.outcome.Ack.{Ack}
+use Rattle.bd_shell.specs.Transcript.{Output, State, synced_state, with_view, Exchange, IsAnswered, HasAcked, durable, text, executed, meanings, lines_to_run, IsFront}
+use Rattle.bd_shell.specs.Session.{end_of, Executes, HasNext, IsAtLine, Among, AllComplete, BeginsWith, TakenAt, ReadOut, IsCutShort, IsCutAfter, Replied, Tells, Ends, has_stop, Later, breaks, ClosedAt, acks_at_end, no_acks, EndsIn, Session, RunsPieces}
 use Rattle.bd_shell.specs.Shell.{last_lines, IsHeld, HasMore, completed, RunFails, HaltsIn, BreaksOff}
 use Rattle.bd_shell.specs.declared.session.Taken.{Taken}
 use Rattle.bd_shell.specs.declared.session.Taken.TheVariants as source_gave
 use Rattle.bd_shell.specs.Taken.{IsTaken, taken_by, Took, TookLast}
-use Rattle.bd_shell.proofs.Left.{leaves_worn, leaves_nothing}
+use Rattle.bd_shell.proofs.Left.{leaves_worn, leaves_later, leaves_as}
 use Rattle.bd_shell.proofs.Transcripts.{transcript_one, transcript_more, transcript_as, up_to_stop-none, up_to_stop-any, up_to_stop-stopped, up_to_stop-append, up_to_stop-one, up_to_stop_front, IsFront-append, IsFront-trans, executed-append}
-use Rattle.bd_shell.proofs.Executes.{executes_none, executes_more, executes_as, text-twice}
+use Rattle.bd_shell.proofs.Acks.{acks_none, acks_then, acks_as, acks_kept, acks_joined}
+use Rattle.bd_shell.proofs.Executes.{executes_none, executes_more, executes_as, executes_kept, executes_acked, text-twice}
 use Rattle.bd_shell.proofs.Feeding.{either, neither}
 
 pub prepend_known-nil : (o : Option (List ℕ)) → prepend_known [] o ≡ o
@@ -212,7 +214,7 @@ took_none (Some t) = inl (refl, refl, refl)
 -- ---- where a session stands
 
 -- what was taken of a script, whose complete lines were executed, none of them a `stop`, and what of the next one is held
-pub record Stands (first now : State → Type 0) (line : List ℕ) (taken : ℕ) (script rest old new : Option (List ℕ)) (before at : Option Takes) : Type 0 where
+pub record Stands (first now : State → Type 0) (line : List ℕ) (taken : ℕ) (script rest : Option (List ℕ)) (old new : Output) (before at : Option Takes) : Type 0 where
   pub bytes : List ℕ
   pub count : length bytes ≡ taken
   pub few : taken ≤ script_limit
@@ -227,7 +229,7 @@ pub record Stands (first now : State → Type 0) (line : List ℕ) (taken : ℕ)
   pub ran : Executes first now (meanings bytes) old new
 
 -- nothing was taken yet
-pub stands_first : (first : State → Type 0) (line : List ℕ) (script w : Option (List ℕ)) (t : Option Takes) → line ≡ []
+pub stands_first : (first : State → Type 0) (line : List ℕ) (script : Option (List ℕ)) (w : Output) (t : Option Takes) → line ≡ []
     → Stands first first line 0 script script w w t t
 stands_first first line script w t none = record {
   bytes = [];
@@ -244,21 +246,34 @@ stands_first first line script w t none = record {
   ran = executes_none first w;
 }
 
--- a flush keeps what was written
-pub stands_kept : (first now : State → Type 0) (line : List ℕ) (taken : ℕ) (script rest a b c : Option (List ℕ)) (before at : Option Takes)
-    → Stands first now line taken script rest a b before at → c ≡ b → Stands first now line taken script rest a c before at
-stands_kept first now line taken script rest a b c before at s same = subst (λ w. Stands first now line taken script rest a w before at) (sym same) s
+-- a flush keeps what was written and acknowledged
+pub stands_kept : (first now : State → Type 0) (line : List ℕ) (taken : ℕ) (script rest : Option (List ℕ)) (a b c : Output) (before at : Option Takes)
+    → Stands first now line taken script rest a b before at → c.written ≡ b.written → c.acks ≡ b.acks → Stands first now line taken script rest a c before at
+stands_kept first now line taken script rest a b c before at s same acks = record {
+  bytes = s.bytes;
+  count = s.count;
+  few = s.few;
+  taken_is = s.taken_is;
+  no_stop = s.no_stop;
+  line_is = s.line_is;
+  idle = s.idle;
+  front = s.front;
+  final = s.final;
+  split = s.split;
+  took = s.took;
+  ran = executes_kept first now (meanings s.bytes) a b c s.ran same acks;
+}
 
 held_twice : (bytes line : List ℕ) → line ≡ held (open_line bytes) → IsHeld line
 held_twice bytes line is =
     ap (λ l. held (open_line l)) (sym (append-nil line)) ∙ held-more bytes [] line is ∙ ap (λ l. held (open_line l)) (append-nil bytes) ∙ sym is
 
-pub stands_held : {first now : State → Type 0} {line : List ℕ} {taken : ℕ} {script rest old new : Option (List ℕ)} {before at : Option Takes}
+pub stands_held : {first now : State → Type 0} {line : List ℕ} {taken : ℕ} {script rest : Option (List ℕ)} {old new : Output} {before at : Option Takes}
     → Stands first now line taken script rest old new before at → IsHeld line
 stands_held {line = line} s = held_twice s.bytes line s.line_is
 
 -- a piece more
-pub stands_more : (first mid now : State → Type 0) (line line2 piece : List ℕ) (taken : ℕ) (script left rest a b c : Option (List ℕ)) (before at after : Option Takes)
+pub stands_more : (first mid now : State → Type 0) (line line2 piece : List ℕ) (taken : ℕ) (script left rest : Option (List ℕ)) (a b c : Output) (before at after : Option Takes)
     → Stands first mid line taken script left a b before at → taken + length piece ≤ script_limit → left ≡ prepend_known piece rest → 0 < length piece
     → length piece ≤ piece_limit → after ≡ option_map (takes_after piece) at
     → Executes mid now (completed line piece) b c → list_any is_stop (meanings (line ++ piece)) ≡ false
@@ -301,16 +316,19 @@ record Parts (front taken : List ℕ) (script rest : Option (List ℕ)) (before 
   took : Took front final before after
   few : length taken ≤ script_limit
 
--- `now` holds of the state, and whether a `stop` is among the lines is known
-abbrev pub StoppedAt : Bool → (State → Type 0) → Bool → State → Type 0
-StoppedAt known now stopped s = now s × (known ≡ stopped)
+-- the acknowledgements of what was executed, and no more
+acked_all : (n : ℕ) (a b : List Ack) → HasAcked n a b → HasAcked (n + 0) a b
+acked_all n a b h = acks_as n (n + 0) a b (omega arith) h
+
+stopped_not : (b : Bool) → true ≡ b → b ≡ false → ⊥
+stopped_not b e f = cc
 
 -- all lines were executed
-all_run : (first now : State → Type 0) (stopped : Bool) (lines more : List LineMeaning) (front taken : List ℕ) (script rest old new : Option (List ℕ)) (before after : Option Takes)
-    → Parts front taken script rest before after → Executes first now lines old new → lines ≡ meanings front ++ more
+all_read : (first now : State → Type 0) (lines more : List LineMeaning) (front taken : List ℕ) (script rest : Option (List ℕ)) (old new : Output) (before after : Option Takes)
+    → (p : Parts front taken script rest before after) → Executes first now lines old new → lines ≡ meanings front ++ more
     → list_any is_stop (meanings front) ≡ false → lines ≡ lines_to_run taken → IfSome script (λ bytes. lines ≡ lines_to_run bytes)
-    → stopped ≡ list_any is_stop lines → Session None first (StoppedAt stopped now) script rest before after old new
-all_run first now stopped lines more front taken script rest old new before after p x begins none among all stops = record {
+    → (list_any is_stop lines ≡ false → IsAtEnd rest × (p.final ≡ [])) → Session None first (λ _. now) no_acks script rest before after old new
+all_read first now lines more front taken script rest old new before after p x begins none among all read = record {
   exchanges = x.exchanges;
   answered = x.answered;
   front = front;
@@ -323,17 +341,31 @@ all_run first now stopped lines more front taken script rest old new before afte
   among_taken = x.lines_are ∙ among;
   among_script = by script all;
   taken_at = p.few;
+  read_out = λ goes_on. read (ap (list_any is_stop) (sym x.lines_are) ∙ goes_on);
   replied = x.written;
+  acked = acked_all _ old.acks new.acks (executes_acked first now lines old new x);
   runs = λ s h. transcript_as s x.exchanges now _ (x.runs s h)
-      (λ t g. record { told = tt; told_script = any_script (Unit {0}) script tt; reached = (g, stops ∙ ap (list_any is_stop) (sym x.lines_are)) });
+      (λ t g. record { told = tt; told_script = any_script (Unit {0}) script tt; reached = g });
 }
   where
     by : (o : Option (List ℕ)) → IfSome o (λ bytes. lines ≡ lines_to_run bytes) → IfSome o (λ bytes. executed x.exchanges ≡ lines_to_run bytes)
     by None h = tt
     by (Some bytes) h = x.lines_are ∙ h
 
+-- so they were, and how the run goes on tells whether a `stop` is among them
+all_run : (first now : State → Type 0) (flow : ControlFlow (Unit {0}) (Unit {0})) (lines more : List LineMeaning) (front taken : List ℕ) (script rest : Option (List ℕ)) (old new : Output) (before after : Option Takes)
+    → (p : Parts front taken script rest before after) → Executes first now lines old new → lines ≡ meanings front ++ more
+    → list_any is_stop (meanings front) ≡ false → lines ≡ lines_to_run taken → IfSome script (λ bytes. lines ≡ lines_to_run bytes)
+    → (list_any is_stop lines ≡ false → IsAtEnd rest × (p.final ≡ [])) → breaks flow ≡ list_any is_stop lines
+    → RunsPieces (Ok flow) first now script rest before after old new
+unfolding all_read
+all_run first now flow lines more front taken script rest old new before after p x begins none among all read stops = record {
+  session = all_read first now lines more front taken script rest old new before after p x begins none among all read;
+  flow = stops ∙ ap (list_any is_stop) (sym x.lines_are);
+}
+
 -- a piece more was taken
-parts_more : {first now : State → Type 0} {line : List ℕ} {taken : ℕ} {script left a b : Option (List ℕ)} {before at : Option Takes}
+parts_more : {first now : State → Type 0} {line : List ℕ} {taken : ℕ} {script left : Option (List ℕ)} {a b : Output} {before at : Option Takes}
     → (s : Stands first now line taken script left a b before at) → (piece : List ℕ) (rest : Option (List ℕ)) (after : Option Takes)
     → taken + length piece ≤ script_limit → left ≡ prepend_known piece rest → length piece ≤ piece_limit → after ≡ option_map (takes_after piece) at
     → Parts s.bytes (s.bytes ++ piece) script rest before after
@@ -346,7 +378,7 @@ parts_more {before = before} {at = at} s piece rest after fits got short told = 
 }
 
 -- a take that gave nothing
-parts_none : {first now : State → Type 0} {line : List ℕ} {taken : ℕ} {script rest a b : Option (List ℕ)} {before at : Option Takes}
+parts_none : {first now : State → Type 0} {line : List ℕ} {taken : ℕ} {script rest : Option (List ℕ)} {a b : Output} {before at : Option Takes}
     → (s : Stands first now line taken script rest a b before at) → (after : Option Takes) → after ≡ option_map (takes_after []) at
     → Parts s.bytes s.bytes script rest before after
 parts_none {before = before} {at = at} s after told = record {
@@ -358,33 +390,37 @@ parts_none {before = before} {at = at} s after told = record {
 }
 
 -- a `stop` ends the script
-pub session_stops : (first mid now : State → Type 0) (line piece : List ℕ) (taken : ℕ) (script left rest a b c : Option (List ℕ)) (before at after : Option Takes)
+pub session_stops : (first mid now : State → Type 0) (flow : ControlFlow (Unit {0}) (Unit {0})) (line piece : List ℕ) (taken : ℕ) (script left rest : Option (List ℕ)) (a b c : Output) (before at after : Option Takes)
     → Stands first mid line taken script left a b before at → taken + length piece ≤ script_limit → left ≡ prepend_known piece rest
     → length piece ≤ piece_limit → after ≡ option_map (takes_after piece) at
     → Executes mid now (completed line piece) b c → list_any is_stop (meanings (line ++ piece)) ≡ true
-    → Session None first (StoppedAt true now) script rest before after a c
-session_stops first mid now line piece taken script left rest a b c before at after s fits got short told x some =
+    → breaks flow ≡ true → RunsPieces (Ok flow) first now script rest before after a c
+session_stops first mid now flow line piece taken script left rest a b c before at after s fits got short told x some off =
     let p = parts_more s piece rest after fits got short told in
     let lines : List LineMeaning = meanings s.bytes ++ completed line piece in
     let all = λ (more : List ℕ). sym (run_stopped s.bytes piece line more s.line_is s.no_stop some) in
-    all_run first now true lines (completed line piece) s.bytes (s.bytes ++ piece) script rest a c before after p
+    let stops : true ≡ list_any is_stop lines =
+    sym (list_any-append is_stop (meanings s.bytes) (completed line piece) ∙ either _ _ (up_to_stop-any (meanings (line ++ piece)) ∙ some)) in
+    all_run first now flow lines (completed line piece) s.bytes (s.bytes ++ piece) script rest a c before after p
     (executes_more first mid now (meanings s.bytes) (completed line piece) a b c s.ran x) refl s.no_stop
     (all [] ∙ ap lines_to_run (append-nil (s.bytes ++ piece)))
     (known (λ bytes. lines ≡ lines_to_run bytes) (s.bytes ++ piece) script rest p.script_is (λ more e. all more))
-    (sym (list_any-append is_stop (meanings s.bytes) (completed line piece) ∙ either _ _ (up_to_stop-any (meanings (line ++ piece)) ∙ some)))
+    (λ none. absurd (stopped_not (list_any is_stop lines) stops none)) (off ∙ stops)
 
 -- the script's end
-pub session_ends : (first mid now : State → Type 0) (stopped : Bool) (line : List ℕ) (taken : ℕ) (script rest a b c : Option (List ℕ)) (before at after : Option Takes)
+pub session_ends : (first mid now : State → Type 0) (flow : ControlFlow (Unit {0}) (Unit {0})) (line : List ℕ) (taken : ℕ) (script rest : Option (List ℕ)) (a b c : Output) (before at after : Option Takes)
     → Stands first mid line taken script rest a b before at → IsAtEnd rest → after ≡ option_map (takes_after []) at
-    → Executes mid now (last_lines line) b c → stopped ≡ list_any is_stop (last_lines line)
-    → Session None first (StoppedAt stopped now) script rest before after a c
-session_ends first mid now stopped line taken script rest a b c before at after s end told x stops =
+    → Executes mid now (last_lines line) b c → breaks flow ≡ list_any is_stop (last_lines line)
+    → RunsPieces (Ok flow) first now script rest before after a c
+unfolding parts_none
+session_ends first mid now flow line taken script rest a b c before at after s end told x stops =
     let lines : List LineMeaning = meanings s.bytes ++ last_lines line in
     let all : lines ≡ lines_to_run s.bytes = sym (run_ended s.bytes line s.line_is s.no_stop) in
-    all_run first now stopped lines (last_lines line) s.bytes s.bytes script rest a c before after (parts_none s after told)
+    all_run first now flow lines (last_lines line) s.bytes s.bytes script rest a c before after (parts_none s after told)
     (executes_more first mid now (meanings s.bytes) (last_lines line) a b c s.ran x) refl s.no_stop all
     (known (λ bytes. lines ≡ lines_to_run bytes) s.bytes script rest s.taken_is
     (λ more e. all ∙ ap lines_to_run (sym (ap (λ l. s.bytes ++ l) (end_is rest end more e) ∙ append-nil s.bytes))))
+    (λ none. (end, refl))
     (stops ∙ sym (list_any-append is_stop (meanings s.bytes) (last_lines line) ∙ ap (λ b. b || list_any is_stop (last_lines line)) s.no_stop))
 
 -- ---- a session's ends by a fault
@@ -446,13 +482,13 @@ next_of_all bytes line piece more xs ys next is none are h =
     (fed_front bytes piece line more is none)
 
 -- some lines, and then a fault within a piece, by what is said of each fault
-broken_by : (e : Fault) (first mid now : State → Type 0) (bytes line piece : List ℕ) (script rest a b c : Option (List ℕ)) (before after : Option Takes)
+broken_by : (e : Fault) (first mid now : State → Type 0) (bytes line piece : List ℕ) (script rest : Option (List ℕ)) (a b c : Output) (before after : Option Takes)
     → Parts bytes (bytes ++ piece) script rest before after → list_any is_stop (meanings bytes) ≡ false → (x : Executes first mid (meanings bytes) a b)
     → (y : BreaksOff e mid now line piece b c) → ((more : List ℕ) → Among (Some e) ((bytes ++ piece) ++ more) (x.exchanges ++ y.exchanges))
-    → TakenAt (Some e) (bytes ++ piece) (x.exchanges ++ y.exchanges) → Replied (Some e) bytes (bytes ++ piece) (x.exchanges ++ y.exchanges) a c
+    → TakenAt (Some e) (bytes ++ piece) (x.exchanges ++ y.exchanges) → Replied (Some e) bytes (bytes ++ piece) (x.exchanges ++ y.exchanges) a.written c.written
     → ((s : State) → Tells (Some e) s (executed y.exchanges) (completed line piece) → (more : List ℕ)
     → Tells (Some e) s (executed (x.exchanges ++ y.exchanges)) (lines_to_run ((bytes ++ piece) ++ more)))
-    → Session (Some e) first (λ _. now) script rest before after a c
+    → Session (Some e) first (λ _. now) no_acks script rest before after a c
 broken_by e first mid now bytes line piece script rest a b c before after p none x y among taken_at replied tells =
     let all : List Exchange = x.exchanges ++ y.exchanges in
     record {
@@ -468,7 +504,9 @@ broken_by e first mid now bytes line piece script rest a b c before after p none
       among_taken = subst (λ bs. Among (Some e) bs all) (append-nil (bytes ++ piece)) (among []);
       among_script = known (λ bs. Among (Some e) bs all) (bytes ++ piece) script rest p.script_is (λ more _. among more);
       taken_at = taken_at;
+      read_out = tt;
       replied = replied;
+      acked = acked_all _ a.acks c.acks (acks_joined x.exchanges y.exchanges a.acks b.acks c.acks (executes_acked first mid (meanings bytes) a b x) y.acked);
       runs = λ s h. transcript_as s all (HaltsIn e line piece y.exchanges now) _ (transcript_more s x.exchanges y.exchanges mid _ (x.runs s h) y.runs)
           (λ t g. record {
             told = subst (λ bs. Tells (Some e) t (executed all) (lines_to_run bs)) (append-nil (bytes ++ piece)) (tells t g.told []);
@@ -477,28 +515,28 @@ broken_by e first mid now bytes line piece script rest a b c before after p none
           });
     }
 
-broken : (e : Fault) (first mid now : State → Type 0) (bytes line piece : List ℕ) (script rest a b c : Option (List ℕ)) (before after : Option Takes)
+broken : (e : Fault) (first mid now : State → Type 0) (bytes line piece : List ℕ) (script rest : Option (List ℕ)) (a b c : Output) (before after : Option Takes)
     → Parts bytes (bytes ++ piece) script rest before after → line ≡ held (open_line bytes) → list_any is_stop (meanings bytes) ≡ false
-    → (x : Executes first mid (meanings bytes) a b) → BreaksOff e mid now line piece b c → Session (Some e) first (λ _. now) script rest before after a c
+    → (x : Executes first mid (meanings bytes) a b) → BreaksOff e mid now line piece b c → Session (Some e) first (λ _. now) no_acks script rest before after a c
 unfolding cut_more
 broken Device first mid now bytes line piece script rest a b c before after p is none x y =
     broken_by Device first mid now bytes line piece script rest a b c before after p none x y
     (λ more. line_front _ _ (at_line bytes line piece more x.exchanges y.exchanges is none x.lines_are y.halts)) p.few
-    (text-twice x.exchanges y.exchanges a b c x.written y.replied) (λ s told more. tt)
+    (text-twice x.exchanges y.exchanges a.written b.written c.written x.written y.replied) (λ s told more. tt)
 broken (Damaged block) first mid now bytes line piece script rest a b c before after p is none x y =
     broken_by (Damaged block) first mid now bytes line piece script rest a b c before after p none x y
     (λ more. at_line bytes line piece more x.exchanges y.exchanges is none x.lines_are y.halts) p.few
-    (text-twice x.exchanges y.exchanges a b c x.written y.replied) (λ s told more. told)
+    (text-twice x.exchanges y.exchanges a.written b.written c.written x.written y.replied) (λ s told more. told)
 broken Source first mid now bytes line piece script rest a b c before after p is none x y = absurd y.halts
 broken Memory first mid now bytes line piece script rest a b c before after p is none x y =
     broken_by Memory first mid now bytes line piece script rest a b c before after p none x y
     (λ more. line_front _ _ (at_line bytes line piece more x.exchanges y.exchanges is none x.lines_are y.halts)) p.few
-    (text-twice x.exchanges y.exchanges a b c x.written y.replied) (λ s told more. tt)
+    (text-twice x.exchanges y.exchanges a.written b.written c.written x.written y.replied) (λ s told more. tt)
 broken TooLong first mid now bytes line piece script rest a b c before after p is none x y = absurd y.halts
 broken (Worn which) first mid now bytes line piece script rest a b c before after p is none x y =
     broken_by (Worn which) first mid now bytes line piece script rest a b c before after p none x y
     (λ more. inr (y.halts.0, next_of_all bytes line piece more x.exchanges y.exchanges y.halts.0 is none x.lines_are y.halts.1)) p.few
-    (text-twice x.exchanges y.exchanges a b c x.written y.replied)
+    (text-twice x.exchanges y.exchanges a.written b.written c.written x.written y.replied)
     (λ s told more. record {
       next = told.next;
       has = next_of_all bytes line piece more x.exchanges y.exchanges told.next is none x.lines_are told.has;
@@ -512,7 +550,7 @@ broken Sink first mid now bytes line piece script rest a b c before after p is n
     subst (λ d. IsFront d upto) (sym (done_twice bytes x.exchanges y.exchanges x.lines_are)) (IsFront-append (meanings bytes) (executed y.exchanges) (completed line piece) y.halts) in
     broken_by Sink first mid now bytes line piece script rest a b c before after p none x y
     (λ more. IsFront-trans (executed all) upto (lines_to_run ((bytes ++ piece) ++ more)) front (fed_front bytes piece line more is none)) p.few
-    (inl (cut_after x.exchanges y.exchanges a b c bytes x.written x.lines_are none y.replied)) (λ s told more. tt)
+    (inl (cut_after x.exchanges y.exchanges a.written b.written c.written bytes x.written x.lines_are none y.replied)) (λ s told more. tt)
   where
     cut_after : (xs ys : List Exchange) (u v w : Option (List ℕ)) (bs : List ℕ) → v ≡ append_known u (text xs) → executed xs ≡ meanings bs
         → list_any is_stop (meanings bs) ≡ false → IsCutShort ys v w → IsCutAfter bs (xs ++ ys) u w
@@ -521,13 +559,19 @@ broken Sink first mid now bytes line piece script rest a b c before after p is n
       begins = begins_with bs (xs ++ cut.front) _ (executed cut.front) (done_twice bs xs cut.front are) refl no_stop;
     }
 
+-- a session that a fault ends
+faulted : (e : Fault) (first now : State → Type 0) (script rest : Option (List ℕ)) (before after : Option Takes) (a c : Output)
+    → Session (Some e) first (λ _. now) no_acks script rest before after a c → RunsPieces (Err e) first now script rest before after a c
+faulted e first now script rest before after a c s = record { session = s; flow = tt }
+
 -- a fault within a piece
-pub session_breaks : (e : Fault) (first mid now : State → Type 0) (line piece : List ℕ) (taken : ℕ) (script left rest a b c : Option (List ℕ)) (before at after : Option Takes)
+pub session_breaks : (e : Fault) (first mid now : State → Type 0) (line piece : List ℕ) (taken : ℕ) (script left rest : Option (List ℕ)) (a b c : Output) (before at after : Option Takes)
     → Stands first mid line taken script left a b before at → taken + length piece ≤ script_limit → left ≡ prepend_known piece rest
     → length piece ≤ piece_limit → after ≡ option_map (takes_after piece) at
-    → BreaksOff e mid now line piece b c → Session (Some e) first (λ _. now) script rest before after a c
+    → BreaksOff e mid now line piece b c → RunsPieces (Err e) first now script rest before after a c
 session_breaks e first mid now line piece taken script left rest a b c before at after s fits got short told fails =
-    broken e first mid now s.bytes line piece script rest a b c before after (parts_more s piece rest after fits got short told) s.line_is s.no_stop s.ran fails
+    faulted e first now script rest before after a c
+    (broken e first mid now s.bytes line piece script rest a b c before after (parts_more s piece rest after fits got short told) s.line_is s.no_stop s.ran fails)
 
 same_script : (P : List ℕ → Type 0) (script : Option (List ℕ)) (bytes : List ℕ) → IfSome script (λ bs. bs ≡ bytes) → P bytes → IfSome script P
 same_script P None bytes same h = tt
@@ -544,14 +588,14 @@ record AtLast (bytes line : List ℕ) (script : Option (List ℕ)) : Type 0 wher
   same : IfSome script (λ bs. bs ≡ bytes)
 
 -- a fault before the last line's reply, by what is said of each fault
-failed_by : (e : Fault) (first mid now : State → Type 0) (bytes line : List ℕ) (script rest a b c : Option (List ℕ)) (before after : Option Takes)
+failed_by : (e : Fault) (first mid now : State → Type 0) (bytes line : List ℕ) (script rest : Option (List ℕ)) (a b c : Output) (before after : Option Takes)
     → Parts bytes bytes script rest before after → AtLast bytes line script → (x : Executes first mid (meanings bytes) a b)
     → (HasNext (line_of line) (executed x.exchanges) (lines_to_run bytes) → Among (Some e) bytes x.exchanges)
-    → TakenAt (Some e) bytes x.exchanges → Replied (Some e) bytes bytes x.exchanges a c
+    → TakenAt (Some e) bytes x.exchanges → Replied (Some e) bytes bytes x.exchanges a.written c.written → c.acks ≡ b.acks
     → ((s : State) → mid s → HasNext (line_of line) (executed x.exchanges) (lines_to_run bytes)
     → Tells (Some e) s (executed x.exchanges) (lines_to_run bytes) × Ends (Some e) s now)
-    → Session (Some e) first (λ _. now) script rest before after a c
-failed_by e first mid now bytes line script rest a b c before after p l x among taken_at replied ends =
+    → Session (Some e) first (λ _. now) no_acks script rest before after a c
+failed_by e first mid now bytes line script rest a b c before after p l x among taken_at replied acks ends =
     let has : HasNext (line_of line) (executed x.exchanges) (lines_to_run bytes) =
     record { rest = []; lines_are = l.all ∙ ap (λ ls. ls ++ line_of line ∷ []) (sym x.lines_are) } in
     record {
@@ -567,7 +611,9 @@ failed_by e first mid now bytes line script rest a b c before after p l x among 
       among_taken = among has;
       among_script = same_script (λ bs. Among (Some e) bs x.exchanges) script bytes l.same (among has);
       taken_at = taken_at;
+      read_out = tt;
       replied = replied;
+      acked = acked_all _ a.acks c.acks (acks_kept _ a.acks b.acks c.acks acks (executes_acked first mid (meanings bytes) a b x));
       runs = λ s h. transcript_as s x.exchanges mid _ (x.runs s h) (λ t g. let r = ends t g has in
           record {
             told = r.0;
@@ -577,22 +623,22 @@ failed_by e first mid now bytes line script rest a b c before after p l x among 
     }
 
 -- a fault at the last line
-failed : (e : Fault) (first mid now : State → Type 0) (bytes line : List ℕ) (script rest a b c : Option (List ℕ)) (before after : Option Takes)
+failed : (e : Fault) (first mid now : State → Type 0) (bytes line : List ℕ) (script rest : Option (List ℕ)) (a b c : Output) (before after : Option Takes)
     → Parts bytes bytes script rest before after → AtLast bytes line script → Executes first mid (meanings bytes) a b
-    → RunFails e mid now (line_of line) b c → Session (Some e) first (λ _. now) script rest before after a c
+    → RunFails e mid now (line_of line) b c → Session (Some e) first (λ _. now) no_acks script rest before after a c
 failed Device first mid now bytes line script rest a b c before after p l x y =
-    failed_by Device first mid now bytes line script rest a b c before after p l x (λ has. line_front _ _ (inr (line_of line, has))) p.few (y.unwritten ∙ x.written)
+    failed_by Device first mid now bytes line script rest a b c before after p l x (λ has. line_front _ _ (inr (line_of line, has))) p.few (y.unwritten ∙ x.written) y.unacked
     (λ s h has. (tt, (line_of line, y.leaves s h)))
 failed (Damaged block) first mid now bytes line script rest a b c before after p l x y =
-    failed_by (Damaged block) first mid now bytes line script rest a b c before after p l x (λ has. inr (line_of line, has)) p.few (y.unwritten ∙ x.written)
+    failed_by (Damaged block) first mid now bytes line script rest a b c before after p l x (λ has. inr (line_of line, has)) p.few (y.unwritten ∙ x.written) y.unacked
     (λ s h has. (y.leaves s h, y.leaves s h))
 failed Source first mid now bytes line script rest a b c before after p l x y = absurd y
 failed Memory first mid now bytes line script rest a b c before after p l x y =
-    failed_by Memory first mid now bytes line script rest a b c before after p l x (λ has. line_front _ _ (inr (line_of line, has))) p.few (y.unwritten ∙ x.written)
+    failed_by Memory first mid now bytes line script rest a b c before after p l x (λ has. line_front _ _ (inr (line_of line, has))) p.few (y.unwritten ∙ x.written) y.unacked
     (λ s h has. (tt, (line_of line, y.leaves s h)))
 failed TooLong first mid now bytes line script rest a b c before after p l x y = absurd y
 failed (Worn which) first mid now bytes line script rest a b c before after p l x y =
-    failed_by (Worn which) first mid now bytes line script rest a b c before after p l x (λ has. inr (line_of line, has)) p.few (y.unwritten ∙ x.written)
+    failed_by (Worn which) first mid now bytes line script rest a b c before after p l x (λ has. inr (line_of line, has)) p.few (y.unwritten ∙ x.written) y.unacked
     (λ s h has. let w = y.leaves s h in (
       record { next = line_of line; has = has; left = w.left; worn = w.worn },
       leaves_worn which s (line_of line) now w,
@@ -615,8 +661,10 @@ failed Sink first mid now bytes line script rest a b c before after p l x y =
       among_taken = among;
       among_script = same_script (λ bs. IsFront (executed xs) (lines_to_run bs)) script bytes l.same among;
       taken_at = p.few;
+      read_out = tt;
+      acked = acked_all _ a.acks c.acks (acks_joined x.exchanges (last ∷ []) a.acks b.acks c.acks (executes_acked first mid (meanings bytes) a b x) y.acked);
       replied = inl (record {
-        cut = record { front = x.exchanges; last = last; exchanges_are = refl; part = subst (λ w. WrotePart (line_reply_line y.said) w c) x.written y.part };
+        cut = record { front = x.exchanges; last = last; exchanges_are = refl; part = subst (λ w. WrotePart (line_reply_line y.said) w c.written) x.written y.part };
         begins = begins_with bytes x.exchanges _ [] x.lines_are (sym (append-nil (meanings bytes))) l.none;
       });
       runs = λ s h. transcript_as s xs now _
@@ -624,16 +672,16 @@ failed Sink first mid now bytes line script rest a b c before after p l x y =
           (λ t g. record { told = tt; told_script = any_script (Unit {0}) script tt; reached = g });
     }
 
-pub session_fails : (e : Fault) (first mid now : State → Type 0) (line : List ℕ) (taken : ℕ) (script rest a b c : Option (List ℕ)) (before at after : Option Takes)
+pub session_fails : (e : Fault) (first mid now : State → Type 0) (line : List ℕ) (taken : ℕ) (script rest : Option (List ℕ)) (a b c : Output) (before at after : Option Takes)
     → Stands first mid line taken script rest a b before at → IsAtEnd rest → after ≡ option_map (takes_after []) at → is_empty line ≡ false
-    → RunFails e mid now (line_of line) b c → Session (Some e) first (λ _. now) script rest before after a c
+    → RunFails e mid now (line_of line) b c → RunsPieces (Err e) first now script rest before after a c
 session_fails e first mid now line taken script rest a b c before at after s end told some fails =
-    failed e first mid now s.bytes line script rest a b c before after (parts_none s after told)
+    faulted e first now script rest before after a c (failed e first mid now s.bytes line script rest a b c before after (parts_none s after told)
     (record {
       none = s.no_stop;
       all = run_ended s.bytes line s.line_is s.no_stop ∙ ap (λ l. meanings s.bytes ++ l) (last_one line some);
       same = known (λ bs. bs ≡ s.bytes) s.bytes script rest s.taken_is (λ more e. ap (λ l. s.bytes ++ l) (end_is rest end more e) ∙ append-nil s.bytes);
-    }) s.ran fails
+    }) s.ran fails)
 
 complete_front : (bytes more : List ℕ) (xs : List Exchange) → executed xs ≡ meanings bytes → list_any is_stop (meanings bytes) ≡ false
     → IsFront (executed xs) (lines_to_run (bytes ++ more))
@@ -645,19 +693,19 @@ complete : (bytes : List ℕ) (xs : List Exchange) → executed xs ≡ meanings 
 complete bytes xs are none = record { lines_are = are; no_stop = ap (list_any is_stop) are ∙ none }
 
 -- a session that ends so, where only complete lines were executed and nothing more is told of the state
-complete_by : (e : Fault) (first now : State → Type 0) (bytes front final taken more : List ℕ) (script rest a b c : Option (List ℕ)) (before after : Option Takes)
+complete_by : (e : Fault) (first now : State → Type 0) (bytes front final taken more : List ℕ) (script rest : Option (List ℕ)) (a b c : Output) (before after : Option Takes)
     → (x : Executes first now (meanings bytes) a b) → list_any is_stop (meanings bytes) ≡ false → taken ≡ bytes ++ more → taken ≡ front ++ final
     → script ≡ prepend_known taken rest → Took front final before after → BeginsWith front x.exchanges
     → ((bs : List ℕ) → IsFront (executed x.exchanges) (lines_to_run bs) → Among (Some e) bs x.exchanges)
-    → TakenAt (Some e) taken x.exchanges → Replied (Some e) front taken x.exchanges a c
+    → TakenAt (Some e) taken x.exchanges → Replied (Some e) front taken x.exchanges a.written c.written → c.acks ≡ b.acks
     → ((s : State) (lines : List LineMeaning) → Tells (Some e) s (executed x.exchanges) lines) → ((s : State) → now s → Ends (Some e) s now)
-    → Session (Some e) first (λ _. now) script rest before after a c
-complete_by e first now bytes front final taken more script rest a b c before after x none joined split is took begins among taken_at replied tells ends =
+    → RunsPieces (Err e) first now script rest before after a c
+complete_by e first now bytes front final taken more script rest a b c before after x none joined split is took begins among taken_at replied acks tells ends =
     let xs : List Exchange = x.exchanges in
     let among_all : (further : List ℕ) → Among (Some e) (taken ++ further) xs =
     λ further. among (taken ++ further) (subst (λ bs. IsFront (executed xs) (lines_to_run bs)) (sym (ap (λ l. l ++ further) joined ∙ append_assoc bytes more further))
     (complete_front bytes (more ++ further) xs x.lines_are none)) in
-    record {
+    faulted e first now script rest before after a c (record {
       exchanges = xs;
       answered = x.answered;
       front = front;
@@ -670,22 +718,24 @@ complete_by e first now bytes front final taken more script rest a b c before af
       among_taken = subst (λ bs. Among (Some e) bs xs) (append-nil taken) (among_all []);
       among_script = known (λ bs. Among (Some e) bs xs) taken script rest is (λ further _. among_all further);
       taken_at = taken_at;
+      read_out = tt;
       replied = replied;
+      acked = acked_all _ a.acks c.acks (acks_kept _ a.acks b.acks c.acks acks (executes_acked first now (meanings bytes) a b x));
       runs = λ s h. transcript_as s xs now _ (x.runs s h) (λ t g. record {
         told = tells t (lines_to_run taken);
         told_script = known (λ bs. Tells (Some e) t (executed xs) (lines_to_run bs)) taken script rest is (λ further _. tells t (lines_to_run (taken ++ further)));
         reached = ends t g;
       });
-    }
+    })
 
 -- the source's fault
-pub session_source : (first now : State → Type 0) (line : List ℕ) (taken : ℕ) (script rest a b : Option (List ℕ)) (before at after : Option Takes)
-    → Stands first now line taken script rest a b before at → after ≡ option_map (takes_after []) at → Session (Some Source) first (λ _. now) script rest before after a b
+pub session_source : (first now : State → Type 0) (line : List ℕ) (taken : ℕ) (script rest : Option (List ℕ)) (a b : Output) (before at after : Option Takes)
+    → Stands first now line taken script rest a b before at → after ≡ option_map (takes_after []) at → RunsPieces (Err Source) first now script rest before after a b
 session_source first now line taken script rest a b before at after s told =
     let p = parts_none s after told in
     complete_by Source first now s.bytes s.bytes p.final s.bytes [] script rest a b b before after s.ran s.no_stop (sym (append-nil s.bytes)) p.taken_is p.script_is p.took
     (begins_with s.bytes s.ran.exchanges _ [] s.ran.lines_are (sym (append-nil (meanings s.bytes))) s.no_stop) (λ bs h. h)
-    (p.few, complete s.bytes s.ran.exchanges s.ran.lines_are s.no_stop) s.ran.written (λ t ls. tt) (λ t g. g)
+    (p.few, complete s.bytes s.ran.exchanges s.ran.lines_are s.no_stop) s.ran.written refl (λ t ls. tt) (λ t g. g)
 
 neither_left : (a b : Bool) → (a || b) ≡ false → a ≡ false
 neither_left true b e = cc
@@ -703,48 +753,100 @@ begins_front front final bytes xs split are none =
     (sym (list_any-append is_stop (meanings front) more) ∙ sym (ap (list_any is_stop) lines) ∙ none))
 
 -- the sink's fault where it has to pass on the replies before a take
-pub session_keeps : (first now : State → Type 0) (line : List ℕ) (taken : ℕ) (script rest a b c : Option (List ℕ)) (before at : Option Takes)
-    → Stands first now line taken script rest a b before at → c ≡ b → Session (Some Sink) first (λ _. now) script rest before at a c
-session_keeps first now line taken script rest a b c before at s same =
+pub session_keeps : (first now : State → Type 0) (line : List ℕ) (taken : ℕ) (script rest : Option (List ℕ)) (a b c : Output) (before at : Option Takes)
+    → Stands first now line taken script rest a b before at → c.written ≡ b.written → c.acks ≡ b.acks
+    → RunsPieces (Err Sink) first now script rest before at a c
+session_keeps first now line taken script rest a b c before at s same acks =
     complete_by Sink first now s.bytes s.front s.final s.bytes [] script rest a b c before at s.ran s.no_stop (sym (append-nil s.bytes)) s.split s.taken_is s.took
     (begins_front s.front s.final s.bytes s.ran.exchanges s.split s.ran.lines_are s.no_stop) (λ bs h. h) (omega (arith, s.count, s.few))
-    (inr (record { written = same ∙ s.ran.written; lines_are = inl (complete s.bytes s.ran.exchanges s.ran.lines_are s.no_stop) })) (λ t ls. tt) (λ t g. g)
+    (inr (record { written = same ∙ s.ran.written; lines_are = inl (complete s.bytes s.ran.exchanges s.ran.lines_are s.no_stop) })) acks (λ t ls. tt) (λ t g. g)
 
 all_front : (xs ys : List LineMeaning) → xs ≡ ys → IsFront xs ys
 all_front xs ys is = ([], sym is ∙ sym (append-nil xs))
 
 -- ---- after the last line
 
+-- what holds of the state that an end leaves, as what follows from it
+ends_as : (end : Option Fault) (s : State) (at to : State → Type 0) → ((t : State) → at t → to t) → Ends end s at → Ends end s to
+ends_as None s at to f h = f s h
+ends_as (Some Device) s at to f h = leaves_as s at to f h
+ends_as (Some (Damaged block)) s at to f h = h
+ends_as (Some Source) s at to f h = f s h
+ends_as (Some Memory) s at to f h = leaves_as s at to f h
+ends_as (Some TooLong) s at to f h = f s h
+ends_as (Some (Worn which)) s at to f h = leaves_as s at to f h
+ends_as (Some Sink) s at to f h = f s h
+
+-- a fault makes nothing durable
+closed_fault : (e : Fault) (now : State → Type 0) (stopped : Bool) (s : State) → now s → ClosedAt (Some e) now stopped s
+closed_fault e now stopped s h = record { calls = s.calls; later = omega arith; reached = h }
+
+-- a session that a fault ended
+pub session_faulted : (e : Fault) (first now : State → Type 0) (script rest : Option (List ℕ)) (a b : Output) (before at : Option Takes)
+    → RunsPieces (Err e) first now script rest before at a b → Session (Some e) first (ClosedAt (Some e) now) (acks_at_end (Some e)) script rest before at a b
+session_faulted e first now script rest a b before at r =
+    let s = r.session in
+    record {
+      exchanges = s.exchanges;
+      answered = s.answered;
+      front = s.front;
+      final = s.final;
+      taken = s.taken;
+      taken_is = s.taken_is;
+      script_is = s.script_is;
+      took = s.took;
+      begins = s.begins;
+      among_taken = s.among_taken;
+      among_script = s.among_script;
+      taken_at = s.taken_at;
+      read_out = s.read_out;
+      replied = s.replied;
+      acked = s.acked;
+      runs = λ t h. transcript_as t s.exchanges (EndsIn (Some e) s.exchanges s.taken script (λ _. now)) _ (s.runs t h)
+          (λ u g. record {
+            told = g.told;
+            told_script = g.told_script;
+            reached = ends_as (Some e) u now (ClosedAt (Some e) now (has_stop s.exchanges)) (closed_fault e now (has_stop s.exchanges)) g.reached;
+          });
+    }
+
 -- a session that executed all lines, and what follows
-session_then : (end : Option Fault) (first : State → Type 0) (mid last : Bool → State → Type 0) (script rest a b c : Option (List ℕ)) (before at : Option Takes)
-    → Session None first mid script rest before at a b → c ≡ b
+session_then : (end : Option Fault) (flow : ControlFlow (Unit {0}) (Unit {0})) (first mid : State → Type 0) (last : Bool → State → Type 0) (more : Bool → ℕ)
+    (script rest : Option (List ℕ)) (a b c : Output) (before at : Option Takes)
+    → RunsPieces (Ok flow) first mid script rest before at a b → c.written ≡ b.written → HasAcked (more (breaks flow)) b.acks c.acks
     → ((bytes : List ℕ) (xs : List Exchange) → executed xs ≡ lines_to_run bytes → Among end bytes xs)
     → ((taken : List ℕ) (xs : List Exchange) → length taken ≤ script_limit → TakenAt end taken xs)
-    → ((front taken : List ℕ) (xs : List Exchange) → c ≡ append_known a (text xs) → executed xs ≡ lines_to_run taken → Replied end front taken xs a c)
+    → ((xs : List Exchange) (final : List ℕ) → ReadOut None xs final rest → ReadOut end xs final rest)
+    → ((front taken : List ℕ) (xs : List Exchange) → c.written ≡ append_known a.written (text xs) → executed xs ≡ lines_to_run taken → Replied end front taken xs a.written c.written)
     → ((s : State) (done lines : List LineMeaning) → Tells end s done lines)
-    → ((stopped : Bool) (s : State) → mid stopped s → Ends end s (last stopped))
-    → Session end first last script rest before at a c
-session_then end first mid last script rest a b c before at s same among taken_at replied tells ends = record {
-  exchanges = s.exchanges;
-  answered = s.answered;
-  front = s.front;
-  final = s.final;
-  taken = s.taken;
-  taken_is = s.taken_is;
-  script_is = s.script_is;
-  took = s.took;
-  begins = s.begins;
-  among_taken = among s.taken s.exchanges s.among_taken;
-  among_script = by s.exchanges script s.among_script;
-  taken_at = taken_at s.taken s.exchanges s.taken_at;
-  replied = replied s.front s.taken s.exchanges (same ∙ s.replied) s.among_taken;
-  runs = λ t h. transcript_as t s.exchanges (EndsIn None s.exchanges s.taken script mid) _ (s.runs t h)
-      (λ u g. record {
-        told = tells u (executed s.exchanges) (lines_to_run s.taken);
-        told_script = each u (executed s.exchanges) script;
-        reached = ends (has_stop s.exchanges) u g.reached;
-      });
-}
+    → ((s : State) → mid s → Ends end s (last (breaks flow)))
+    → Session end first last more script rest before at a c
+session_then end flow first mid last more script rest a b c before at r same acks among taken_at read replied tells ends =
+    let s = r.session in
+    record {
+      exchanges = s.exchanges;
+      answered = s.answered;
+      front = s.front;
+      final = s.final;
+      taken = s.taken;
+      taken_is = s.taken_is;
+      script_is = s.script_is;
+      took = s.took;
+      begins = s.begins;
+      among_taken = among s.taken s.exchanges s.among_taken;
+      among_script = by s.exchanges script s.among_script;
+      taken_at = taken_at s.taken s.exchanges s.taken_at;
+      read_out = read s.exchanges s.final s.read_out;
+      replied = replied s.front s.taken s.exchanges (same ∙ s.replied) s.among_taken;
+      acked = acks_as _ _ a.acks c.acks (omega (arith, ap more r.flow))
+          (acks_then (durable (executed s.exchanges) + 0) (more (breaks flow)) a.acks b.acks c.acks s.acked acks);
+      runs = λ t h. transcript_as t s.exchanges (EndsIn None s.exchanges s.taken script (λ _. mid)) _ (s.runs t h)
+          (λ u g. record {
+            told = tells u (executed s.exchanges) (lines_to_run s.taken);
+            told_script = each u (executed s.exchanges) script;
+            reached = subst (λ k. Ends end u (last k)) r.flow (ends u g.reached);
+          });
+    }
   where
     by : (xs : List Exchange) (o : Option (List ℕ)) → IfSome o (λ bytes. executed xs ≡ lines_to_run bytes) → IfSome o (λ bytes. Among end bytes xs)
     by xs None h = tt
@@ -754,56 +856,68 @@ session_then end first mid last script rest a b c before at s same among taken_a
     each u done None = tt
     each u done (Some bytes) = tells u done (lines_to_run bytes)
 
+-- no more acknowledgements
+none_since : (b c : List Ack) → c ≡ b → HasAcked 0 b c
+none_since b c same = acks_kept 0 b b c same (acks_none b)
+
 -- the sink's fault where it has to pass on the last replies
-pub session_keeps_last : (first now : State → Type 0) (flow : ControlFlow (Unit {0}) (Unit {0})) (script rest a b c : Option (List ℕ)) (before at : Option Takes)
-    → Session None first (ToldAt (Ok flow) now) script rest before at a b → c ≡ b → Session (Some Sink) first (λ _. now) script rest before at a c
-session_keeps_last first now flow script rest a b c before at s same =
-    session_then (Some Sink) first (ToldAt (Ok flow) now) (λ _. now) script rest a b c before at s same (λ bs xs h. all_front (executed xs) (lines_to_run bs) h)
-    (λ taken xs h. h) (λ front taken xs written lines. inr (record { written = written; lines_are = inr lines })) (λ u done lines. tt) (λ stopped u h. h.0)
+pub session_keeps_last : (first now : State → Type 0) (flow : ControlFlow (Unit {0}) (Unit {0})) (script rest : Option (List ℕ)) (a b c : Output) (before at : Option Takes)
+    → RunsPieces (Ok flow) first now script rest before at a b → c.written ≡ b.written → c.acks ≡ b.acks
+    → Session (Some Sink) first (ClosedAt (Some Sink) now) (acks_at_end (Some Sink)) script rest before at a c
+session_keeps_last first now flow script rest a b c before at r same acks =
+    session_then (Some Sink) flow first now (ClosedAt (Some Sink) now) (acks_at_end (Some Sink)) script rest a b c before at r same (none_since b.acks c.acks acks)
+    (λ bs xs h. all_front (executed xs) (lines_to_run bs) h) (λ taken xs h. h) (λ xs final h. tt)
+    (λ front taken xs written lines. inr (record { written = written; lines_are = inr lines })) (λ u done lines. tt) (λ u h. closed_fault Sink now (breaks flow) u h)
 
 -- all was made durable, where no `stop` did so
-pub session_closed : (first mid now : State → Type 0) (flow : ControlFlow (Unit {0}) (Unit {0})) (script rest a b c : Option (List ℕ)) (before at : Option Takes)
-    → Session None first (ToldAt (Ok flow) mid) script rest before at a b → c ≡ b → ((s : State) → mid s → now (closed None (breaks flow) s))
-    → Session None first (ClosedAt None now) script rest before at a c
-session_closed first mid now flow script rest a b c before at s same closes =
-    session_then None first (ToldAt (Ok flow) mid) (ClosedAt None now) script rest a b c before at s same (λ bs xs h. h)
-    (λ taken xs h. h) (λ front taken xs written lines. written) (λ u done lines. tt)
-    (λ stopped u h. subst (λ b. now (closed None b u)) h.1 (closes u h.0))
+pub session_closed : (first mid now : State → Type 0) (flow : ControlFlow (Unit {0}) (Unit {0})) (script rest : Option (List ℕ)) (a b c : Output) (before at : Option Takes)
+    → RunsPieces (Ok flow) first mid script rest before at a b → c.written ≡ b.written → HasAcked (acks_at_end None (breaks flow)) b.acks c.acks
+    → ((s : State) → mid s → ClosedAt None now (breaks flow) s)
+    → Session None first (ClosedAt None now) (acks_at_end None) script rest before at a c
+session_closed first mid now flow script rest a b c before at r same acks closes =
+    session_then None flow first mid (ClosedAt None now) (acks_at_end None) script rest a b c before at r same acks (λ bs xs h. h)
+    (λ taken xs h. h) (λ xs final h. h) (λ front taken xs written lines. written) (λ u done lines. tt) closes
 
 -- the last sync failed
-pub session_unclosed : (e : Fault) (first mid now : State → Type 0) (flow : ControlFlow (Unit {0}) (Unit {0})) (script rest a b c : Option (List ℕ)) (before at : Option Takes)
-    → (e ≡ Device) ⊎ (e ≡ Memory) → Session None first (ToldAt (Ok flow) mid) script rest before at a b → c ≡ b → ((s : State) → mid s → now s)
-    → Session (Some e) first (λ _. now) script rest before at a c
-session_unclosed e first mid now flow script rest a b c before at (inl is) s same stays =
-    subst (λ f. Session (Some f) first (λ _. now) script rest before at a c) (sym is)
-    (session_then (Some Device) first (ToldAt (Ok flow) mid) (λ _. now) script rest a b c before at s same (λ bs xs h. all_front (executed xs) (lines_to_run bs) h)
-    (λ taken xs h. h) (λ front taken xs written lines. written) (λ u done lines. tt) (λ stopped u h. leaves_nothing u now (stays u h.0)))
-session_unclosed e first mid now flow script rest a b c before at (inr is) s same stays =
-    subst (λ f. Session (Some f) first (λ _. now) script rest before at a c) (sym is)
-    (session_then (Some Memory) first (ToldAt (Ok flow) mid) (λ _. now) script rest a b c before at s same (λ bs xs h. all_front (executed xs) (lines_to_run bs) h)
-    (λ taken xs h. h) (λ front taken xs written lines. written) (λ u done lines. tt) (λ stopped u h. leaves_nothing u now (stays u h.0)))
+pub session_unclosed : (e : Fault) (first mid now : State → Type 0) (flow : ControlFlow (Unit {0}) (Unit {0})) (script rest : Option (List ℕ)) (a b c : Output) (before at : Option Takes)
+    → (e ≡ Device) ⊎ (e ≡ Memory) → RunsPieces (Ok flow) first mid script rest before at a b → c.written ≡ b.written → c.acks ≡ b.acks
+    → ((s : State) → mid s → Later (with_view s s.view) now s)
+    → Session (Some e) first (ClosedAt (Some e) now) (acks_at_end (Some e)) script rest before at a c
+session_unclosed e first mid now flow script rest a b c before at (inl is) r same acks stays =
+    subst (λ f. Session (Some f) first (ClosedAt (Some f) now) (acks_at_end (Some f)) script rest before at a c) (sym is)
+    (session_then (Some Device) flow first mid (ClosedAt (Some Device) now) (acks_at_end (Some Device)) script rest a b c before at r same (none_since b.acks c.acks acks)
+    (λ bs xs h. all_front (executed xs) (lines_to_run bs) h) (λ taken xs h. h) (λ xs final h. tt) (λ front taken xs written lines. written) (λ u done lines. tt)
+    (λ u h. leaves_as u now (ClosedAt (Some Device) now (breaks flow)) (closed_fault Device now (breaks flow)) (leaves_later u now (stays u h))))
+session_unclosed e first mid now flow script rest a b c before at (inr is) r same acks stays =
+    subst (λ f. Session (Some f) first (ClosedAt (Some f) now) (acks_at_end (Some f)) script rest before at a c) (sym is)
+    (session_then (Some Memory) flow first mid (ClosedAt (Some Memory) now) (acks_at_end (Some Memory)) script rest a b c before at r same (none_since b.acks c.acks acks)
+    (λ bs xs h. all_front (executed xs) (lines_to_run bs) h) (λ taken xs h. h) (λ xs final h. tt) (λ front taken xs written lines. written) (λ u done lines. tt)
+    (λ u h. leaves_as u now (ClosedAt (Some Memory) now (breaks flow)) (closed_fault Memory now (breaks flow)) (leaves_later u now (stays u h))))
 
 -- the last sync, with either end
-pub session_close : {T : Type 0} (r : Result T Fault) (first mid now : State → Type 0) (flow : ControlFlow (Unit {0}) (Unit {0})) (script rest a b c : Option (List ℕ))
-    (before at : Option Takes) → Session None first (ToldAt (Ok flow) mid) script rest before at a b → c ≡ b → breaks flow ≡ false
-    → OnOk r ((s : State) → mid s → now (synced_state s)) → OnErr r ((s : State) → mid s → now s) → IfErr r (λ e. (e ≡ Device) ⊎ (e ≡ Memory))
-    → Session (end_of r) first (ClosedAt (end_of r) now) script rest before at a c
-session_close (Ok x) first mid now flow script rest a b c before at s same on ok err kind =
-    session_closed first mid now flow script rest a b c before at s same (λ u h. subst (λ t. now (closed None t u)) (sym on) (ok u h))
-session_close (Err e) first mid now flow script rest a b c before at s same on ok err kind =
-    session_unclosed e first mid now flow script rest a b c before at kind s same err
+pub session_close : {T : Type 0} (r : Result T Fault) (first mid now : State → Type 0) (flow : ControlFlow (Unit {0}) (Unit {0})) (script rest : Option (List ℕ)) (a b c : Output)
+    (before at : Option Takes) → RunsPieces (Ok flow) first mid script rest before at a b → c.written ≡ b.written → breaks flow ≡ false
+    → OnOk r ((s : State) → mid s → Later (synced_state s) now s) → OnErr r ((s : State) → mid s → Later (with_view s s.view) now s)
+    → OnOk r (HasAcked 1 b.acks c.acks) → OnErr r (c.acks ≡ b.acks) → IfErr r (λ e. (e ≡ Device) ⊎ (e ≡ Memory))
+    → Session (end_of r) first (ClosedAt (end_of r) now) (acks_at_end (end_of r)) script rest before at a c
+session_close (Ok x) first mid now flow script rest a b c before at s same on ok err acked unacked kind =
+    session_closed first mid now flow script rest a b c before at s same (subst (λ t. HasAcked (acks_at_end None t) b.acks c.acks) (sym on) acked)
+    (λ u h. subst (λ t. ClosedAt None now t u) (sym on) (ok u h))
+session_close (Err e) first mid now flow script rest a b c before at s same on ok err acked unacked kind =
+    session_unclosed e first mid now flow script rest a b c before at kind s same unacked err
 
 -- a `stop` made all durable
-pub session_stopped : (first now : State → Type 0) (flow : ControlFlow (Unit {0}) (Unit {0})) (script rest a b c : Option (List ℕ)) (before at : Option Takes)
-    → Session None first (ToldAt (Ok flow) now) script rest before at a b → c ≡ b → breaks flow ≡ true
-    → Session None first (ClosedAt None now) script rest before at a c
-session_stopped first now flow script rest a b c before at s same off =
-    session_closed first now now flow script rest a b c before at s same (λ u h. subst (λ t. now (closed None t u)) (sym off) h)
+pub session_stopped : (first now : State → Type 0) (flow : ControlFlow (Unit {0}) (Unit {0})) (script rest : Option (List ℕ)) (a b c : Output) (before at : Option Takes)
+    → RunsPieces (Ok flow) first now script rest before at a b → c.written ≡ b.written → c.acks ≡ b.acks → breaks flow ≡ true
+    → Session None first (ClosedAt None now) (acks_at_end None) script rest before at a c
+session_stopped first now flow script rest a b c before at s same acks off =
+    session_closed first now now flow script rest a b c before at s same (subst (λ t. HasAcked (acks_at_end None t) b.acks c.acks) (sym off) (none_since b.acks c.acks acks))
+    (λ u h. subst (λ t. ClosedAt None now t u) (sym off) (record { calls = u.calls; later = omega arith; reached = h }))
 
 -- a byte past the limit
-pub session_too_long : (first now : State → Type 0) (line piece : List ℕ) (taken : ℕ) (script left rest a b : Option (List ℕ)) (before at after : Option Takes)
+pub session_too_long : (first now : State → Type 0) (line piece : List ℕ) (taken : ℕ) (script left rest : Option (List ℕ)) (a b : Output) (before at after : Option Takes)
     → Stands first now line taken script left a b before at → taken ≡ script_limit → left ≡ prepend_known piece rest → length piece ≡ 1
-    → after ≡ option_map (takes_after piece) at → Session (Some TooLong) first (λ _. now) script rest before after a b
+    → after ≡ option_map (takes_after piece) at → RunsPieces (Err TooLong) first now script rest before after a b
 session_too_long first now line piece taken script left rest a b before at after s full got one told =
     let is = s.taken_is ∙ ap (prepend_known s.bytes) got ∙ prepend_known-append s.bytes piece rest in
     let cut : take script_limit (s.bytes ++ piece) ≡ s.bytes = ap (λ n. take n (s.bytes ++ piece)) (sym (s.count ∙ full)) ∙ take-append_seam s.bytes piece in
@@ -812,7 +926,7 @@ session_too_long first now line piece taken script left rest a b before at after
     (begins_with s.bytes s.ran.exchanges _ [] s.ran.lines_are (sym (append-nil (meanings s.bytes))) s.no_stop) (λ bs h. h) (
       omega (arith, length-append s.bytes piece, s.count, full, one),
       record { lines_are = s.ran.lines_are ∙ ap meanings (sym cut); no_stop = ap (list_any is_stop) s.ran.lines_are ∙ s.no_stop },
-    ) s.ran.written (λ t ls. tt) (λ t g. g)
+    ) s.ran.written refl (λ t ls. tt) (λ t g. g)
 
 -- what is said of either end of a call, of its end
 pub ends_by : {T : Type 0} (P : Result T Fault → Type 0) (A S : Type 0) (F : T → Type 0) (B : Fault → Type 0) (r : Result T Fault) → OnOk r A → IfOk r F

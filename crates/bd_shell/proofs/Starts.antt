@@ -1,5 +1,5 @@
 -- Images from which a volume starts.
-use Rattle.std.proofs.Common.{◌≡◌, ℕ, ◌+◌, List, [], refl, sym, subst, arith}
+use Rattle.std.proofs.Common.{◌≡◌, ℕ, ◌+◌, List, [], ◌∷◌, refl, sym, subst, arith}
 use Rattle.std.specs.List.{Contains}
 use Rattle.std.proofs.lemmas.List.Elements.{Contains-push}
 use Rattle.bd_model.specs.Tree.{Tree}
@@ -21,20 +21,21 @@ pub at_begun : (passed : List Point) (t : Tree) (n : ℕ) (c : Image) → Contai
 at_begun passed t n c among stands = record { here = point t n; among = among; enough = omega arith; stands = stands }
 
 -- at the beginning itself
-pub begun_at : (t : Tree) (n : ℕ) (v : View) (c : Image) → ImageStandsFor t n c → IsAtPoint (state_at t n v).passed 0 c
-begun_at t n v c stands = at_begun (state_at t n v).passed t n c (Contains-push [] (point t n)) stands
+pub begun_at : (t : Tree) (n : ℕ) (c : Image) → ImageStandsFor t n c → IsAtPoint (point t n ∷ []) 0 c
+begun_at t n c stands = at_begun (point t n ∷ []) t n c (Contains-push [] (point t n)) stands
 
 -- from the return of the barrier on
-pub safe_start : {D : Type 0} (g : Ghosts D) (old new : D) (t : Tree) (n : ℕ) (v : View) → HasStarted g old new t n → IsSafeSince g new (g.call_count old + 1) new [] (state_at t n v)
+pub safe_start : {D : Type 0} (g : Ghosts D) (old new : D) (t : Tree) (n : ℕ) (v : View) → HasStarted g old new t n
+    → IsSafeSince g new (g.call_count old + 1) new [] (state_at t n v (g.call_count new))
 safe_start g old new t n v started =
-    safe_first g new (g.call_count old + 1) (state_at t n v) started.called (λ c left. begun_at t n v c (started.each c left)) (Contains-push [] (point t n)) refl
+    safe_first g new (g.call_count old + 1) (state_at t n v (g.call_count new)) started.called (λ c left. begun_at t n c (started.each c left)) (Contains-push [] (point t n)) refl refl
 
 -- a volume that started, of which nothing is acknowledged yet
 pub kept_start : {D : Type 0} (g : Ghosts D) (old : D) (k : Acknowledged D) (v : Volume D) (t : Tree) (n : ℕ) → k.volume ≡ v → k.acks.items ≡ []
     → StandsFor g v t n → HasStarted g old (device_of v) t n
-    → KeptAt g (device_below k) (g.call_count old + 1) k (state_at t n (view_of g k.volume))
+    → KeptAt g (device_below k) (g.call_count old + 1) k (state_at t n (view_of g k.volume) (g.call_count (device_below k)))
 kept_start g old k v t n is none stands started = record {
   at = record { stands = subst (λ w. StandsFor g w t n) (sym is) stands; view_is = refl };
-  safe = subst (λ acks. IsSafeSince g (device_below k) (g.call_count old + 1) (device_below k) acks (state_at t n (view_of g k.volume))) (sym none)
+  safe = subst (λ acks. IsSafeSince g (device_below k) (g.call_count old + 1) (device_below k) acks (state_at t n (view_of g k.volume) (g.call_count (device_below k)))) (sym none)
       (safe_start g old (device_below k) t n (view_of g k.volume) (subst (λ (w : Volume _). HasStarted g old (device_of w) t n) (sym is) started));
 }

@@ -1,10 +1,9 @@
 -- What a crash leaves, from call to call.
-use Rattle.std.proofs.Common.{◌≡◌, ℕ, ◌≤◌, true, false, List, [], ◌∷◌, ◌++◌, inl, ⊎_elim, sym, ap, subst, ◌∙◌, arith}
+use Rattle.std.proofs.Common.{◌≡◌, ℕ, ◌≤◌, true, false, List, [], ◌∷◌, ◌++◌, inl, ⊎_elim, refl, sym, ap, ◌∙◌, arith}
 use Rattle.std.specs.Prelude.{OnOk, OnErr, is_err}
 use Rattle.std.specs.declared.result.Result.{Result}
 use Rattle.std.specs.declared.result.Result.TheVariants.{Ok, Err}
 use Rattle.std.specs.List.{AllByRecursion, Contains}
-use Rattle.std.proofs.lemmas.List.{map-append}
 use Rattle.bd_device.specs.Blocks.{Image}
 use Rattle.bd_device.specs.Device.{left_now, Goes}
 use Rattle.bd_device.specs.Moments.{Elapses}
@@ -15,7 +14,7 @@ use Rattle.bd_image.specs.Standing.{StandsAs, IsOldOrNew}
 use Rattle.bd_checkpoint.specs.Kept.{AllStandFor}
 use Rattle.bd_node.proofs.Lookup.{each_both}
 use Rattle.bd_shell.specs.declared.outcome.Ack.{Ack}
-use Rattle.bd_shell.specs.Transcript.{Point, State, point_of, synced_state}
+use Rattle.bd_shell.specs.Transcript.{Point, State, ack, point_of, synced_state, with_view}
 use Rattle.bd_shell.specs.Crashes.{IsAtPoint, IsAcked, IsSafeSince}
 
 -- what is said of a result that is known to be Ok, or not to be
@@ -93,20 +92,22 @@ module _ {D : Type 0} (g : Ghosts D) where
 
   -- nothing was done yet
   pub safe_first : (first : D) (since : ℕ) (s : State) → since ≤ g.call_count first → ((c : Image) → g.left_since first since c → IsAtPoint s.passed 0 c)
-      → Contains s.passed (point_of s) → s.synced ≡ [] → IsSafeSince g first since first [] s
-  safe_first first since s early begun here none = record {
+      → Contains s.passed (point_of s) → s.calls ≡ g.call_count first → s.acks ≡ [] → IsSafeSince g first since first [] s
+  safe_first first since s early begun here calls none = record {
     time = record { later = omega arith; keeps = λ t c le h. h; adds = λ t c le h. inl h };
     early = early;
     begun = begun;
     here = here;
     acked = tt;
-    counts = sym none;
+    calls = calls;
+    acks_are = sym none;
   }
 
-  -- calls go on, inside which a crash leaves what one of before stands for, or the state's own tree
+  -- calls go on, inside which a crash leaves what one of before stands for, or the state's own tree, and nothing but their number changes in the state
   pub safe_then : (first : D) (since : ℕ) (old new : D) (acks : List Ack) (s : State)
       → ((t u : ℕ) (c : Image) → t ≤ u → g.left_since old u c → g.left_since old t c)
-      → Goes g old new (IsOldOrNew (left_now g old) s.tree s.count) → IsSafeSince g first since old acks s → IsSafeSince g first since new acks s
+      → Goes g old new (IsOldOrNew (left_now g old) s.tree s.count) → IsSafeSince g first since old acks s
+      → IsSafeSince g first since new acks (with_view s s.view (g.call_count new))
   safe_then first since old new acks s earlier time safe =
       let inside : (c : Image) → IsOldOrNew (left_now g old) s.tree s.count c → IsAtPoint s.passed 0 c =
       λ c h. ⊎_elim
@@ -117,38 +118,43 @@ module _ {D : Type 0} (g : Ghosts D) where
         early = safe.early;
         begun = safe.begun;
         here = safe.here;
-        acked = acked_then s (g.call_count old) (g.call_count new) (g.left_since old) (g.left_since new) acks earlier safe.here time safe.acked;
-        counts = safe.counts;
+        acked = acked_more s (with_view s s.view (g.call_count new)) (g.call_count new) (g.left_since new) acks (λ p h. h) (omega arith)
+            (acked_then s (g.call_count old) (g.call_count new) (g.left_since old) (g.left_since new) acks earlier safe.here time safe.acked);
+        calls = refl;
+        acks_are = safe.acks_are;
       }
 
-  -- a state that has passed more points, its own among them, and as many lines that made all durable
+  -- a state that has passed more points, its own among them, with the device's number of calls and the same acknowledgements
   pub safe_more : (first : D) (since : ℕ) (now : D) (acks : List Ack) (s t : State) → ((p : Point) → Contains s.passed p → Contains t.passed p)
-      → s.count ≤ t.count → Contains t.passed (point_of t) → t.synced ≡ s.synced → IsSafeSince g first since now acks s → IsSafeSince g first since now acks t
-  safe_more first since now acks s t wider more here same safe = record {
+      → s.count ≤ t.count → Contains t.passed (point_of t) → t.calls ≡ g.call_count now → t.acks ≡ s.acks → IsSafeSince g first since now acks s
+      → IsSafeSince g first since now acks t
+  safe_more first since now acks s t wider more here calls same safe = record {
     time = within (IsAtPoint s.passed 0) (IsAtPoint t.passed 0) safe.time (λ c p. at_more s.passed t.passed 0 c wider p);
     early = safe.early;
     begun = λ c left. at_more s.passed t.passed 0 c wider (safe.begun c left);
     here = here;
     acked = acked_more s t (g.call_count now) (g.left_since now) acks wider more safe.acked;
-    counts = safe.counts ∙ sym same;
+    calls = calls;
+    acks_are = safe.acks_are ∙ sym same;
   }
 
   -- all was made durable, and that is acknowledged
-  pub safe_acked : (first : D) (since : ℕ) (now : D) (acks : List Ack) (a : Ack) (s : State) → a.calls ≡ g.call_count now → a.count ≡ s.count
-      → AllStandFor s.tree s.count (left_now g now) → IsSafeSince g first since now acks s → IsSafeSince g first since now (acks ++ a ∷ []) (synced_state s)
-  safe_acked first since now acks a s calls count kept safe = record {
+  pub safe_acked : (first : D) (since : ℕ) (now : D) (acks : List Ack) (s : State) → AllStandFor s.tree s.count (left_now g now)
+      → IsSafeSince g first since now acks s → IsSafeSince g first since now (acks ++ ack (g.call_count now) s.count ∷ []) (synced_state s (g.call_count now))
+  safe_acked first since now acks s kept safe = record {
     time = safe.time;
     early = safe.early;
     begun = safe.begun;
     here = safe.here;
-    acked = acked_more s (synced_state s) (g.call_count now) (g.left_since now) (acks ++ a ∷ []) (λ p h. h) (omega arith)
-        (each_both (IsAcked s (g.call_count now) (g.left_since now)) acks (a ∷ []) safe.acked (
+    acked = acked_more s (synced_state s (g.call_count now)) (g.call_count now) (g.left_since now) (acks ++ ack (g.call_count now) s.count ∷ []) (λ p h. h) (omega arith)
+        (each_both (IsAcked s (g.call_count now) (g.left_since now)) acks (ack (g.call_count now) s.count ∷ []) safe.acked (
           record {
-            past = omega (arith, calls);
-            few = omega (arith, count);
-            kept = λ c left. at_here s a.count c safe.here (omega (arith, count)) (kept c (subst (λ n. g.left_since now n c) calls left));
+            past = omega arith;
+            few = omega arith;
+            kept = λ c left. at_here s s.count c safe.here (omega arith) (kept c left);
           },
           tt,
         ));
-    counts = map-append (λ (x : Ack). x.count) acks (a ∷ []) ∙ ap (λ l. l ++ a.count ∷ []) safe.counts ∙ ap (λ n. s.synced ++ n ∷ []) count;
+    calls = refl;
+    acks_are = ap (λ l. l ++ ack (g.call_count now) s.count ∷ []) safe.acks_are;
   }

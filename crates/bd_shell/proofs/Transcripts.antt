@@ -41,7 +41,7 @@ pub transcript_one : (s : State) (line : LineMeaning) (said : LineReply) (at : S
 transcript_one s line said at x = record {
   entries = record { line = line; said = said; state = x.after } ∷ [];
   exchanges_are = refl;
-  transcript = (record { follows = x.follows; represents = x.represents }, tt);
+  transcript = (record { follows = x.follows; later = x.later; represents = x.represents }, tt);
   reached = x.reached;
 }
 

@@ -1,5 +1,5 @@
 -- What a crash leaves of a run.
-use Rattle.std.specs.Prelude.{◌≡◌, ℕ, ◌≤◌, List, map}
+use Rattle.std.specs.Prelude.{◌≡◌, ℕ, ◌≤◌, List}
 use Rattle.std.specs.List.{AllByRecursion, Contains}
 use Rattle.bd_device.specs.Blocks.{Image}
 use Rattle.bd_device.specs.Device.{Goes}
@@ -22,12 +22,9 @@ pub record IsAcked (s : State) (now : ℕ) (left : ℕ → Image → Type 0) (a 
   pub few : a.count ≤ s.count
   pub kept : (c : Image) → left a.calls c → IsAtPoint s.passed a.count c
 
--- what was acknowledged at each line that made all durable, in order
-abbrev pub counts_of_acks : List Ack → List ℕ
-counts_of_acks acks = map (λ (a : Ack). a.count) acks
-
 -- calls went on from a device to this one, and inside them a crash leaves a point that was passed;
--- so it does since a call before the first; each acknowledgement holds
+-- so it does since a call before the first; each acknowledgement holds, and they are the state's,
+-- as the device's number of calls is
 pub record IsSafeSince {D : Type 0} (g : Ghosts D) (first : D) (since : ℕ) (now : D)
     (acks : List Ack) (s : State) : Type 0 where
   pub time : Goes g first now (IsAtPoint s.passed 0)
@@ -35,4 +32,5 @@ pub record IsSafeSince {D : Type 0} (g : Ghosts D) (first : D) (since : ℕ) (no
   pub begun : (c : Image) → g.left_since first since c → IsAtPoint s.passed 0 c
   pub here : Contains s.passed (point_of s)
   pub acked : AllByRecursion (IsAcked s (g.call_count now) (g.left_since now)) acks
-  pub counts : counts_of_acks acks ≡ s.synced
+  pub calls : s.calls ≡ g.call_count now
+  pub acks_are : acks ≡ s.acks

@@ -1,7 +1,7 @@
 -- What a session does with the lines of a script, and how it ends.
-use Rattle.std.specs.Prelude.{◌≡◌, ◌⊎◌, ℕ, ◌+◌, ◌^◌, ◌≤◌, Bool, true, false, List, [], ◌∷◌, ◌++◌, length, take, if◌then◌else◌, IfSome, IsNone, IsSome, ⊤}
+use Rattle.std.specs.Prelude.{◌≡◌, ◌⊎◌, ℕ, ◌+◌, ◌^◌, ◌≤◌, Bool, true, false, List, [], ◌∷◌, ◌++◌, length, take, if◌then◌else◌, IfOk, IfSome, IsNone, IsSome, ⊤}
 use Rattle.std.specs.List.{list_any, AllByRecursion}
-use Rattle.std.specs.Io.KnownBytes.{append_known, prepend_known}
+use Rattle.std.specs.Io.KnownBytes.{append_known, prepend_known, IsAtEnd}
 use Rattle.std.specs.declared.option.Option.{Option}
 use Rattle.std.specs.declared.option.Option.TheVariants.{None, Some}
 use Rattle.std.specs.declared.result.Result.{Result}
@@ -24,7 +24,7 @@ use Rattle.bd_volume.specs.Wears.{Wears, HasBegunReclaiming, WearsReclaiming}
 use Rattle.bd_shell.specs.declared.fault.Fault.{Fault}
 use Rattle.bd_shell.specs.declared.fault.Fault.TheVariants.{Device, Damaged, Source, Memory, TooLong, Worn, Sink}
 use Rattle.bd_shell.specs.Taken.{Took}
-use Rattle.bd_shell.specs.Transcript.{Known, State, with_view, synced_state, Exchange, IsAnswered, HasTranscript, text, executed, meanings, lines_to_run, IsFront}
+use Rattle.bd_shell.specs.Transcript.{Known, Output, State, with_view, synced_state, Exchange, IsAnswered, HasAcked, HasTranscript, durable, text, executed, meanings, lines_to_run, IsFront}
 
 -- how a session ends: by a fault, or with the script
 abbrev pub end_of : {T : Type 0} → Result T Fault → Option Fault
@@ -38,14 +38,16 @@ breaks (Break b) = true
 
 -- ---- some lines
 
--- these lines were executed and their replies written, whatever the volume stands for; from each
--- state at which `first` holds they have a transcript, after which `last` holds
-pub record Executes (first last : State → Type 0) (lines : List LineMeaning) (old new : Known)
+-- these lines were executed and their replies written, whatever the volume stands for, and each
+-- that makes all durable was acknowledged; from each state at which `first` holds they have a
+-- transcript, after which `last` holds
+pub record Executes (first last : State → Type 0) (lines : List LineMeaning) (old new : Output)
     : Type 0 where
   pub exchanges : List Exchange
   pub answered : AllByRecursion IsAnswered exchanges
   pub lines_are : executed exchanges ≡ lines
-  pub written : new ≡ append_known old (text exchanges)
+  pub written : new.written ≡ append_known old.written (text exchanges)
+  pub acked : HasAcked (durable lines) old.acks new.acks
   pub runs : (s : State) → first s → HasTranscript s exchanges last
 
 -- of these lines some were executed, from the first on, and a next one was there
@@ -72,11 +74,14 @@ IsLeftBy (Ok Reclaim) s left = HasBegunReclaiming s.view left
 IsLeftBy (Ok Stop) s left = left ≡ s.view
 IsLeftBy (Err refusal) s left = left ≡ s.view
 
--- a fault of a line leaves tree and count, and this of the view; `at` holds of the state then
+-- a fault of a line leaves tree and count, and this of the view, after this many calls of the
+-- device; `at` holds of the state then
 pub record LeavesBy (line : LineMeaning) (s : State) (at : State → Type 0) : Type 0 where
   pub left : View
   pub by : IsLeftBy line s left
-  pub reached : at (with_view s left)
+  pub calls : ℕ
+  pub later : s.calls ≤ calls
+  pub reached : at (with_view s left calls)
 
 -- so does a fault of some line
 abbrev pub Leaves : State → (State → Type 0) → Type 0
@@ -118,6 +123,10 @@ pub record WornByNext (which : Counter) (s : State) (done lines : List LineMeani
 
 -- ---- what an end leaves of the lines
 
+-- whether a `stop` was executed
+abbrev pub has_stop : List Exchange → Bool
+has_stop xs = list_any is_stop (executed xs)
+
 -- nothing was executed, or a next line was there
 abbrev pub IsAtLine : List Exchange → List LineMeaning → Type 0
 IsAtLine xs lines = (xs ≡ []) ⊎ ((next : LineMeaning) × HasNext next (executed xs) lines)
@@ -156,6 +165,12 @@ TakenAt (Some TooLong) taken xs =
     (length taken ≡ script_limit + 1) × AllComplete (take script_limit taken) xs
 TakenAt (Some (Worn which)) taken xs = length taken ≤ script_limit
 TakenAt (Some Sink) taken xs = length taken ≤ script_limit
+
+-- a session that ends well and without a `stop` read its script to the end: nothing is left of a
+-- known one, and the last take gave nothing
+abbrev pub ReadOut : Option Fault → List Exchange → List ℕ → Known → Type 0
+ReadOut None xs final rest = has_stop xs ≡ false → IsAtEnd rest × (final ≡ [])
+ReadOut (Some e) xs final rest = ⊤
 
 -- ---- what an end leaves of the replies
 
@@ -218,24 +233,30 @@ Ends (Some Sink) s at = at s
 
 -- ---- the end of a script
 
--- whether a `stop` was executed
-abbrev pub has_stop : List Exchange → Bool
-has_stop xs = list_any is_stop (executed xs)
+-- at its end all is made durable, after this many calls of the device, which a `stop` did already;
+-- at a fault nothing is
+abbrev pub closed : Option Fault → Bool → ℕ → State → State
+closed None stopped calls s = if stopped then s else synced_state s calls
+closed (Some e) stopped calls s = s
 
--- at its end all is made durable, which a `stop` did already; at a fault nothing is
-abbrev pub closed : Option Fault → Bool → State → State
-closed None stopped s = if stopped then s else synced_state s
-closed (Some e) stopped s = s
+-- `at` holds of what a state becomes after this many calls of the device, no fewer than in it
+pub record Later (becomes : ℕ → State) (at : State → Type 0) (s : State) : Type 0 where
+  pub calls : ℕ
+  pub later : s.calls ≤ calls
+  pub reached : at (becomes calls)
 
 -- `at` holds of the state then
 abbrev pub ClosedAt : Option Fault → (State → Type 0) → Bool → State → Type 0
-ClosedAt end at stopped s = at (closed end stopped s)
+ClosedAt end at stopped s = Later (λ calls. closed end stopped calls s) at s
 
--- `at` holds of the state, and how a run goes on tells whether a `stop` was executed
-abbrev pub ToldAt : Result (ControlFlow (Unit {0}) (Unit {0})) Fault → (State → Type 0) → Bool
-    → State → Type 0
-ToldAt (Ok flow) at stopped s = at s × (breaks flow ≡ stopped)
-ToldAt (Err e) at stopped s = at s
+-- how many acknowledgements come with the end: one without a fault and without a `stop`
+abbrev pub acks_at_end : Option Fault → Bool → ℕ
+acks_at_end None stopped = if stopped then 0 else 1
+acks_at_end (Some e) stopped = 0
+
+-- none yet
+abbrev pub no_acks : Bool → ℕ
+no_acks stopped = 0
 
 -- ---- a whole session
 
@@ -249,9 +270,11 @@ pub record EndsIn (end : Option Fault) (xs : List Exchange) (taken : List ℕ) (
 
 -- a session with a script, of which `script` is left of the source before and `rest` after, and how
 -- it was asked for: its lines with their replies, among the lines that were taken and those of the
--- script; from each state at which it may begin they have one transcript
+-- script, and an acknowledgement for each that makes all durable, with this many more at the end, by
+-- whether a `stop` is among them; from each state at which it may begin they have one transcript
 pub record Session (end : Option Fault) (first : State → Type 0) (last : Bool → State → Type 0)
-    (script rest : Known) (before now : Option Takes) (old new : Known) : Type 0 where
+    (more : Bool → ℕ) (script rest : Known) (before now : Option Takes) (old new : Output)
+    : Type 0 where
   pub exchanges : List Exchange
   pub answered : AllByRecursion IsAnswered exchanges
   pub front : List ℕ
@@ -264,6 +287,17 @@ pub record Session (end : Option Fault) (first : State → Type 0) (last : Bool 
   pub among_taken : Among end taken exchanges
   pub among_script : IfSome script (λ bytes. Among end bytes exchanges)
   pub taken_at : TakenAt end taken exchanges
-  pub replied : Replied end front taken exchanges old new
+  pub read_out : ReadOut end exchanges final rest
+  pub replied : Replied end front taken exchanges old.written new.written
+  pub acked :
+      HasAcked (durable (executed exchanges) + more (has_stop exchanges)) old.acks new.acks
   pub runs : (s : State) → first s
       → HasTranscript s exchanges (EndsIn end exchanges taken script last)
+
+-- a session before all is made durable at its end; how it goes on tells whether a `stop` was
+-- executed
+pub record RunsPieces (result : Result (ControlFlow (Unit {0}) (Unit {0})) Fault)
+    (first last : State → Type 0) (script rest : Known) (before now : Option Takes)
+    (old new : Output) : Type 0 where
+  pub session : Session (end_of result) first (λ _. last) no_acks script rest before now old new
+  pub flow : IfOk result (λ flow. breaks flow ≡ has_stop session.exchanges)

@@ -1,5 +1,5 @@
 -- What the functions of the shell say of a shell, a line and a sink.
-use Rattle.std.specs.Prelude.{◌≡◌, ◌⊎◌, ℕ, ◌<◌, Bool, true, false, List, [], ◌∷◌, ◌++◌, if◌then◌else◌, IsSomeAnd, ⊤}
+use Rattle.std.specs.Prelude.{◌≡◌, ◌⊎◌, ℕ, ◌<◌, ◌≤◌, Bool, true, false, List, [], ◌∷◌, ◌++◌, if◌then◌else◌, IsSomeAnd, ⊤}
 use Rattle.std.specs.List.{list_any, AllByRecursion}
 use Rattle.std.specs.Io.KnownBytes.{append_known}
 use Rattle.std.specs.declared.option.Option.{Option}
@@ -23,7 +23,7 @@ use Rattle.bd_volume.specs.declared.fault.Fault.TheVariants as volume
 use Rattle.bd_volume.specs.declared.volume.Volume.{Volume}
 use Rattle.bd_checkpoint.specs.Recovering.{FailsFirst, IsBadIn}
 use Rattle.bd_volume.specs.Starts.{HasStarted}
-use Rattle.bd_volume.specs.Volume.{StandsFor, view_of, device_of, stop_of}
+use Rattle.bd_volume.specs.Volume.{StandsFor, view_of, count_of, device_of, stop_of}
 use Rattle.bd_shell.specs.Fault.{Faults, faults}
 use Rattle.bd_shell.specs.declared.fault.Fault.{Fault}
 use Rattle.bd_shell.specs.declared.fault.Fault.TheVariants.{Device, Damaged, Source, Memory, TooLong, Worn, Sink}
@@ -31,7 +31,7 @@ use Rattle.bd_shell.specs.declared.outcome.Ack.{Ack}
 use Rattle.bd_shell.specs.declared.acknowledged.Acknowledged.{Acknowledged}
 use Rattle.bd_shell.specs.declared.shell.Shell.{Shell}
 use Rattle.bd_shell.specs.Crashes.{IsSafeSince}
-use Rattle.bd_shell.specs.Transcript.{Known, State, with_view, Exchange, IsAnswered, MayGet, Follows, HasTranscript, text, executed, meanings, IsFront}
+use Rattle.bd_shell.specs.Transcript.{Known, Output, State, with_view, ack, Exchange, IsAnswered, HasAcked, MayGet, Follows, HasTranscript, durable, text, executed, meanings, IsFront}
 use Rattle.bd_shell.specs.Session.{HasNext, WornBy, LeavesBy, Ends, Tells, IsCutShort}
 
 -- a volume stands for a state, whose view is the volume's own
@@ -47,12 +47,22 @@ device_below v = device_of v.volume
 abbrev pub stop_below : {D : Type 0} → Acknowledged D → Option ℕ
 stop_below v = stop_of v.volume
 
+-- what was acknowledged of it
+abbrev pub acks_below : {D : Type 0} → Acknowledged D → List Ack
+acks_below v = v.acks.items
+
+-- one more acknowledgement than before: of the device's calls, and of the commands that the volume
+-- has accepted
+abbrev pub Acknowledges : {D : Type 0} → Ghosts D → Acknowledged D → Acknowledged D → Type 0
+Acknowledges g old new = acks_below new
+    ≡ acks_below old ++ ack (g.call_count (device_below new)) (count_of new.volume) ∷ []
+
 -- it stands for a state, and what a crash leaves does for a point that was passed, since a device
--- was so; its acknowledgements hold
+-- was so; its acknowledgements hold, and they and the device's calls are the state's
 pub record KeptAt {D : Type 0} (g : Ghosts D) (first : D) (since : ℕ) (v : Acknowledged D)
     (s : State) : Type 0 where
   pub at : VolumeAt g v.volume s
-  pub safe : IsSafeSince g first since (device_below v) v.acks.items s
+  pub safe : IsSafeSince g first since (device_below v) (acks_below v) s
 
 -- so does a shell's
 abbrev pub ShellAt : {D : Type 0} → Ghosts D → D → ℕ → Shell D → State → Type 0
@@ -64,7 +74,7 @@ view_in g shell = view_of g shell.kept.volume
 
 -- what was acknowledged
 abbrev pub acks_in : {D : Type 0} → Shell D → List Ack
-acks_in shell = shell.kept.acks.items
+acks_in shell = acks_below shell.kept
 
 -- what is held of the next line
 abbrev pub held_of : {D : Type 0} → Shell D → List ℕ
@@ -149,22 +159,24 @@ pub record CutsAt (bytes line rest : List ℕ) : Type 0 where
 
 -- ---- one line
 
--- a line's reply follows from a state, and `at` holds of the state after it, whose tree the nodes
--- of its view represent
+-- a line's reply follows from a state, and `at` holds of the state after it, with no fewer calls of
+-- the device, whose tree the nodes of its view represent
 pub record Replies (s : State) (line : LineMeaning) (said : LineReply) (at : State → Type 0)
     : Type 0 where
   pub after : State
   pub follows : Follows s line said after
+  pub later : s.calls ≤ after.calls
   pub represents : Represents (keys_of after.view) after.tree
   pub reached : at after
 
--- a line was executed and its reply written
-pub record ExecutesOne (first last : State → Type 0) (line : LineMeaning) (old new : Known)
+-- a line was executed and its reply written, and it was acknowledged where it makes all durable
+pub record ExecutesOne (first last : State → Type 0) (line : LineMeaning) (old new : Output)
     : Type 0 where
   pub said : LineReply
   pub answer : MayGet line said
   pub one_line : HasNoNewline (line_reply_text said)
-  pub written : new ≡ append_known old (line_reply_line said)
+  pub written : new.written ≡ append_known old.written (line_reply_line said)
+  pub acked : HasAcked (durable (line ∷ [])) old.acks new.acks
   pub replies : (s : State) → first s → Replies s line said last
 
 -- ---- faults, with what each leaves; the causes of all stand in one table
@@ -188,12 +200,14 @@ IsOutcome volume.NoMemory outcome = outcome ≡ Err Memory
 IsOutcome (volume.Full free need) outcome = outcome ≡ Ok (reply.Full free need)
 IsOutcome (volume.Stopped call) outcome = ⊥
 
--- the line wore the counter, and `at` holds of what is left
+-- the line wore the counter, and `at` holds of what is left, after this many calls of the device
 pub record Wore (which : Counter) (s : State) (line : LineMeaning) (at : State → Type 0)
     : Type 0 where
   pub left : View
   pub worn : WornBy which s line left
-  pub reached : at (with_view s left)
+  pub calls : ℕ
+  pub later : s.calls ≤ calls
+  pub reached : at (with_view s left calls)
 
 -- what a line's fault before its reply leaves of a state; damage comes from none
 abbrev pub LineFails : Fault → State → LineMeaning → (State → Type 0) → Type 0
@@ -215,23 +229,25 @@ IsLineFault TooLong = ⊥
 IsLineFault (Worn which) = ⊤
 IsLineFault Sink = ⊥
 
--- a fault came before a line's reply, and nothing was written
+-- a fault came before a line's reply, and nothing was written or acknowledged
 pub record FailsBefore (e : Fault) (first last : State → Type 0) (line : LineMeaning)
-    (old new : Known) : Type 0 where
-  pub unwritten : new ≡ old
+    (old new : Output) : Type 0 where
+  pub unwritten : new.written ≡ old.written
+  pub unacked : new.acks ≡ old.acks
   pub leaves : (s : State) → first s → LineFails e s line last
 
 -- an executed line of whose reply only a part was written
-pub record IsCut (first last : State → Type 0) (line : LineMeaning) (old new : Known)
+pub record IsCut (first last : State → Type 0) (line : LineMeaning) (old new : Output)
     : Type 0 where
   pub said : LineReply
   pub answer : MayGet line said
   pub one_line : HasNoNewline (line_reply_text said)
-  pub part : WrotePart (line_reply_line said) old new
+  pub part : WrotePart (line_reply_line said) old.written new.written
+  pub acked : HasAcked (durable (line ∷ [])) old.acks new.acks
   pub replies : (s : State) → first s → Replies s line said last
 
 -- a fault of a line: before its reply, or within it
-abbrev pub RunFails : Fault → (State → Type 0) → (State → Type 0) → LineMeaning → Known → Known
+abbrev pub RunFails : Fault → (State → Type 0) → (State → Type 0) → LineMeaning → Output → Output
     → Type 0
 RunFails Device first last line old new = FailsBefore Device first last line old new
 RunFails (Damaged block) first last line old new =
@@ -285,10 +301,11 @@ pub record HaltsIn (e : Fault) (begun piece : List ℕ) (xs : List Exchange)
 
 -- a fault came while the lines that a piece completes were executed
 pub record BreaksOff (e : Fault) (first last : State → Type 0) (begun piece : List ℕ)
-    (old new : Known) : Type 0 where
+    (old new : Output) : Type 0 where
   pub exchanges : List Exchange
   pub answered : AllByRecursion IsAnswered exchanges
   pub halts : Halts e begun piece exchanges
-  pub replied : RepliesUpTo e exchanges old new
+  pub replied : RepliesUpTo e exchanges old.written new.written
+  pub acked : HasAcked (durable (executed exchanges)) old.acks new.acks
   pub runs : (s : State) → first s
       → HasTranscript s exchanges (HaltsIn e begun piece exchanges last)

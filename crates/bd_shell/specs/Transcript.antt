@@ -1,5 +1,5 @@
 -- What a run does, line by line.
-use Rattle.std.specs.Prelude.{◌≡◌, ℕ, ◌+◌, ◌*◌, ◌<◌, ◌≤◌, Bool, true, false, ◌&&◌, List, [], ◌∷◌, ◌++◌, map, if◌then◌else◌, MatchBool, IsNone, ⊤}
+use Rattle.std.specs.Prelude.{◌≡◌, ℕ, ◌+◌, ◌*◌, ◌<◌, ◌≤◌, Bool, true, false, ◌&&◌, List, [], ◌∷◌, ◌++◌, length, map, if◌then◌else◌, MatchBool, IsNone, ⊤}
 use Rattle.std.specs.List.{flat_map}
 use Rattle.std.specs.declared.option.Option.{Option}
 use Rattle.std.specs.declared.result.Result.TheVariants.{Ok, Err}
@@ -19,6 +19,7 @@ use Rattle.bd_script.specs.declared.replies.LineReply.TheVariants as reply
 use Rattle.bd_view.specs.Views.{View, keys_of, free_slots}
 use Rattle.bd_view.specs.Moves.{IsAccepted, Saves, synced, IsCommandFull, IsCheckpointFull}
 use Rattle.bd_view.specs.Reclaiming.{IsReclaim, IsReclaimFull}
+use Rattle.bd_shell.specs.declared.outcome.Ack.{Ack}
 
 -- bytes, where they are known
 abbrev pub Known : Type 0
@@ -74,6 +75,41 @@ MayGet (Err refusal) said = said ≡ reply.Unread refusal
 abbrev pub IsAnswered : Exchange → Type 0
 IsAnswered x = MayGet x.line x.said × HasNoNewline (line_reply_text x.said)
 
+-- the lines that make all durable, each of which is acknowledged
+abbrev pub is_durable : LineMeaning → Bool
+is_durable (Ok (Run c)) = false
+is_durable (Ok Walk) = false
+is_durable (Ok Df) = false
+is_durable (Ok Sync) = true
+is_durable (Ok Checkpoint) = false
+is_durable (Ok Reclaim) = false
+is_durable (Ok Stop) = true
+is_durable (Err refusal) = false
+
+-- how many of these lines make all durable
+abbrev pub durable : List LineMeaning → ℕ
+durable [] = 0
+durable (l ∷ ls) = (if is_durable l then 1 else 0) + durable ls
+
+-- this many acknowledgements came after others
+pub record HasAcked (count : ℕ) (old new : List Ack) : Type 0 where
+  pub more : List Ack
+  pub acks_are : new ≡ old ++ more
+  pub count_is : length more ≡ count
+
+-- an acknowledgement: the device's calls at that moment, and the accepted commands that are on it
+abbrev pub ack : ℕ → ℕ → Ack
+ack calls count = record { calls = calls; count = count }
+
+-- what is seen of a run: the bytes that were written, where they are known, and what was
+-- acknowledged
+pub record Output : Type 0 where
+  pub written : Known
+  pub acks : List Ack
+
+abbrev pub output : Known → List Ack → Output
+output written acks = record { written = written; acks = acks }
+
 -- what is written of the replies
 abbrev pub text : List Exchange → List ℕ
 text xs = flat_map (λ x. line_reply_line x.said) xs
@@ -94,46 +130,58 @@ point t n = record { tree = t; count = n }
 
 -- the tree, how many commands were accepted, and the view: the nodes that keep the tree, with how
 -- the last clone or rename went, and the numbers of slots and of the log. Also all points that were
--- passed: that of the beginning, and one after each accepted command; and how many commands were
--- accepted at each line that made them durable
+-- passed: that of the beginning, and one after each accepted command; how many calls of the device
+-- there were; and what was acknowledged, in order: one acknowledgement at each line that made all
+-- durable
 pub record State : Type 0 where
   pub tree : Tree
   pub count : ℕ
   pub view : View
   pub passed : List Point
-  pub synced : List ℕ
+  pub calls : ℕ
+  pub acks : List Ack
 
--- the state of a tree, a count and a view, at the beginning
-abbrev pub state_at : Tree → ℕ → View → State
-state_at t n view =
-    record { tree = t; count = n; view = view; passed = point t n ∷ []; synced = [] }
+-- the state of a tree, a count and a view, at the beginning, after this many calls of the device
+abbrev pub state_at : Tree → ℕ → View → ℕ → State
+state_at t n view calls = record {
+  tree = t;
+  count = n;
+  view = view;
+  passed = point t n ∷ [];
+  calls = calls;
+  acks = [];
+}
 
 -- the state's own point
 abbrev pub point_of : State → Point
 point_of s = point s.tree s.count
 
--- the state with another view
-abbrev pub with_view : State → View → State
-with_view s view = record s { view = view }
+-- the state with another view, after this many calls of the device
+abbrev pub with_view : State → View → ℕ → State
+with_view s view calls = record s { view = view; calls = calls }
 
--- once all was made durable
-abbrev pub synced_state : State → State
-synced_state s =
-    record s { view = synced s.view; synced = s.synced ++ s.count ∷ [] }
+-- once all was made durable, after this many calls of the device: its count is acknowledged
+abbrev pub synced_state : State → ℕ → State
+synced_state s calls = record s {
+  view = synced s.view;
+  calls = calls;
+  acks = s.acks ++ ack calls s.count ∷ [];
+}
 
 -- the points after a command, which led to this one
 abbrev pub passed_by : List Point → Command → Reply → Point → List Point
 passed_by passed c r p = if writes c && is_done r then passed ++ p ∷ [] else passed
 
--- the state after a command, with a view
-abbrev pub state_of_step : State → Command → View → State
-state_of_step s c view = record {
+-- the state after a command, with a view, after this many calls of the device
+abbrev pub state_of_step : State → Command → View → ℕ → State
+state_of_step s c view calls = record {
   tree = (step s.tree c).0;
   count = s.count + accepted c (step s.tree c).1;
   view = view;
   passed = passed_by s.passed c (step s.tree c).1
       (point (step s.tree c).0 (s.count + accepted c (step s.tree c).1));
-  synced = s.synced;
+  calls = calls;
+  acks = s.acks;
 }
 
 -- ---- what a line does
@@ -147,14 +195,14 @@ Moves t c r old new = MatchBool (writes c && is_done r) (IsAccepted t c old new)
 pub record Steps (s : State) (c : Command) (r : Reply) (after : State) : Type 0 where
   pub limits : IsCommand c
   pub said_is : r ≡ (step s.tree c).1
-  pub after_is : after ≡ state_of_step s c after.view
+  pub after_is : after ≡ state_of_step s c after.view after.calls
   pub moved : Moves s.tree c (step s.tree c).1 s.view after.view
 
 -- too few slots are free for a command that the tree accepts; tree and count stay
 pub record Fills (s : State) (c : Command) (free need : ℕ) (after : State) : Type 0 where
   pub limits : IsCommand c
   pub accepted : IsNone (refusal_of s.tree c)
-  pub after_is : after ≡ with_view s after.view
+  pub after_is : after ≡ with_view s after.view after.calls
   pub full : IsCommandFull c s.view after.view free need
 
 -- a command's reply and the state after it
@@ -174,10 +222,10 @@ Serves moves fills s (reply.Command r) after = ⊥
 Serves moves fills s (reply.Unread refusal) after = ⊥
 Serves moves fills s (reply.Walk visits height) after = ⊥
 Serves moves fills s reply.Done after =
-    moves s.view after.view × (after ≡ with_view s after.view)
+    moves s.view after.view × (after ≡ with_view s after.view after.calls)
 Serves moves fills s (reply.Free free slots) after = ⊥
 Serves moves fills s (reply.Full free need) after =
-    fills free need s.view after.view × (after ≡ with_view s after.view)
+    fills free need s.view after.view × (after ≡ with_view s after.view after.calls)
 Serves moves fills s reply.Stopped after = ⊥
 
 -- a checkpoint that is refused leaves the view
@@ -201,10 +249,10 @@ abbrev pub Follows : State → LineMeaning → LineReply → State → Type 0
 Follows s (Ok (Run c)) said after = Answers s c said after
 Follows s (Ok Walk) said after = (said ≡ told s.view.tree.walk) × (after ≡ s)
 Follows s (Ok Df) said after = (said ≡ told_free s.view) × (after ≡ s)
-Follows s (Ok Sync) said after = (said ≡ reply.Done) × (after ≡ synced_state s)
+Follows s (Ok Sync) said after = (said ≡ reply.Done) × (after ≡ synced_state s after.calls)
 Follows s (Ok Checkpoint) said after = Serves Saves FillsCheckpoint s said after
 Follows s (Ok Reclaim) said after = Serves IsReclaim FillsReclaim s said after
-Follows s (Ok Stop) said after = (said ≡ reply.Stopped) × (after ≡ synced_state s)
+Follows s (Ok Stop) said after = (said ≡ reply.Stopped) × (after ≡ synced_state s after.calls)
 Follows s (Err refusal) said after = (said ≡ reply.Unread refusal) × (after ≡ s)
 
 -- ---- transcripts
@@ -215,9 +263,11 @@ pub record Entry : Type 0 where
   pub said : LineReply
   pub state : State
 
--- the entry follows from the state before it, and the nodes of its view represent its tree
+-- the entry follows from the state before it, no fewer calls of the device were made, and the nodes
+-- of its view represent its tree
 pub record Continues (s : State) (e : Entry) : Type 0 where
   pub follows : Follows s e.line e.said e.state
+  pub later : s.calls ≤ e.state.calls
   pub represents : Represents (keys_of e.state.view) e.state.tree
 
 -- each entry follows from the state before it

@@ -3,8 +3,9 @@
 ghost use Rattle.std.specs.Prelude.{◌≡◌, ◌⊎◌, ℕ, [], None, IfErr, OnOk, OnErr};
 ghost use Rattle.bd_device.specs.Device.{Stays};
 ghost use Rattle.bd_shell.specs.Fault.{IsCaused};
-ghost use Rattle.bd_shell.specs.Transcript.{State, synced_state};
-ghost use Rattle.bd_shell.specs.Shell.{KeptAt, FailsNoWrite, counts_of, device_below, stop_below};
+ghost use Rattle.bd_shell.specs.Transcript.{State, synced_state, with_view};
+ghost use Rattle.bd_shell.specs.Session.{Later};
+ghost use Rattle.bd_shell.specs.Shell.{KeptAt, Acknowledges, FailsNoWrite, acks_below, counts_of, device_below, stop_below};
 
 use crate::fault::Fault;
 use crate::outcome::Ack;
@@ -34,17 +35,21 @@ impl<D: Device + Drop> Acknowledged<D> {
         }
     }
 
-    /// Makes all that was accepted durable, and acknowledges it. `Memory` comes before a sync is
-    /// made, `Device` where it failed; neither leaves an acknowledgement.
+    /// Makes all that was accepted durable, and acknowledges it, with the number of the device's
+    /// calls right after the sync. `Memory` comes before a sync is made, `Device` where it failed;
+    /// neither leaves an acknowledgement.
     pub fn acknowledge(&mut self) -> Result<(), Fault>
         requires { stop_below self.old ≡ None }
         ensures ok { OnOk result ((first : D) (since : ℕ) (s : State)
             → KeptAt D.Device first since self.old s
-            → KeptAt D.Device first since self.new (synced_state s)) }
+            → Later (synced_state s) (KeptAt D.Device first since self.new) s) }
         ensures err { OnErr result ((first : D) (since : ℕ) (s : State)
-            → KeptAt D.Device first since self.old s → KeptAt D.Device first since self.new s) }
+            → KeptAt D.Device first since self.old s
+            → Later (with_view s s.view) (KeptAt D.Device first since self.new) s) }
 
         // Whatever the volume stands for.
+        ensures acked { OnOk result (Acknowledges D.Device self.old self.new) }
+        ensures unacked { OnErr result (acks_below self.new ≡ acks_below self.old) }
         ensures kind { IfErr result (λ e. (e ≡ Fault.Device) ⊎ (e ≡ Fault.Memory)) }
         ensures going { OnOk result (stop_below self.new ≡ None) }
         ensures device { Stays D.Device (device_below self.old) (device_below self.new) }

@@ -5,8 +5,9 @@ ghost use Rattle.bd_device.specs.Device.{Stays};
 ghost use Rattle.bd_io.specs.Cause.{HasCause};
 ghost use Rattle.bd_io.specs.Takes.{takes_after};
 ghost use Rattle.bd_shell.specs.Fault.{IsCaused, faults, of_sink};
-ghost use Rattle.bd_shell.specs.Session.{ClosedAt, Session, ToldAt, end_of};
-ghost use Rattle.bd_shell.specs.Shell.{FailsNoWrite, NamesBad, ShellAt, device_in, held_of, stop_in};
+ghost use Rattle.bd_shell.specs.Transcript.{output};
+ghost use Rattle.bd_shell.specs.Session.{ClosedAt, RunsPieces, Session, acks_at_end, end_of};
+ghost use Rattle.bd_shell.specs.Shell.{FailsNoWrite, NamesBad, ShellAt, acks_in, device_in, held_of, stop_in};
 ghost use Rattle.bd_shell.specs.Taken.{IsTaken, taken_by};
 
 use crate::fault::Fault;
@@ -83,9 +84,10 @@ pub fn run_script<D: Device + Drop, S: Source, K: Sink>(
     requires going { stop_in shell.old ≡ None }
     ensures session { (first : D) (since : ℕ) → Session (end_of result)
         (ShellAt D.Device first since shell.old)
-        (ClosedAt (end_of result) (ShellAt D.Device first since shell.new)) (S.left src.old)
-        (S.left src.new) (S.takes src.old) (S.takes src.new) (K.written sink.old)
-        (K.written sink.new) }
+        (ClosedAt (end_of result) (ShellAt D.Device first since shell.new))
+        (acks_at_end (end_of result)) (S.left src.old) (S.left src.new) (S.takes src.old)
+        (S.takes src.new) (output (K.written sink.old) (acks_in shell.old))
+        (output (K.written sink.new) (acks_in shell.new)) }
     ensures flushed { OnOk result (K.waiting sink.new ≡ 0) }
     ensures going { OnOk result (stop_in shell.new ≡ None) }
     ensures device { Stays D.Device (device_in shell.old) (device_in shell.new) }
@@ -114,11 +116,11 @@ fn run_pieces<D: Device + Drop, S: Source, K: Sink>(
 ) -> Result<ControlFlow<()>, Fault>
     requires line { held_of shell.old ≡ [] }
     requires going { stop_in shell.old ≡ None }
-    ensures session { (first : D) (since : ℕ) → Session (end_of result)
-        (ShellAt D.Device first since shell.old)
-        (ToldAt result (ShellAt D.Device first since shell.new)) (S.left src.old)
-        (S.left src.new) (S.takes src.old) (S.takes src.new) (K.written sink.old)
-        (K.written sink.new) }
+    ensures session { (first : D) (since : ℕ) → RunsPieces result
+        (ShellAt D.Device first since shell.old) (ShellAt D.Device first since shell.new)
+        (S.left src.old) (S.left src.new) (S.takes src.old) (S.takes src.new)
+        (output (K.written sink.old) (acks_in shell.old))
+        (output (K.written sink.new) (acks_in shell.new)) }
     ensures going { OnOk result (stop_in shell.new ≡ None) }
     ensures device { Stays D.Device (device_in shell.old) (device_in shell.new) }
     ensures writes { FailsNoWrite D.Device (device_in shell.old) (device_in shell.new) result }

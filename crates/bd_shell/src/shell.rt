@@ -1,4 +1,4 @@
-ghost use Rattle.std.specs.Prelude.{◌≡◌, ◌≢◌, ◌+◌, ◌≤◌, ◌⊎◌, ◌++◌, ℕ, [], MatchOption, length, false, None, Ok, IfOk, IfErr, IfSome, OnOk, OnErr};
+ghost use Rattle.std.specs.Prelude.{◌≡◌, ◌≢◌, ◌+◌, ◌≤◌, ◌⊎◌, ◌++◌, ℕ, [], ◌∷◌, MatchOption, length, false, None, Ok, IfOk, IfErr, IfSome, OnOk, OnErr};
 ghost use Rattle.std.specs.List.{list_any};
 ghost use Rattle.std.specs.Io.KnownBytes.{append_known};
 ghost use Rattle.bd_io.specs.Cause.{HasCause};
@@ -15,9 +15,9 @@ ghost use Rattle.bd_volume.specs.Starts.{OnlyStarts};
 ghost use Rattle.bd_volume.specs.Volume.{IsFirstView};
 ghost use Rattle.bd_volume.specs.Wears.{WearsReplaying};
 ghost use Rattle.bd_shell.specs.Fault.{IsCaused};
-ghost use Rattle.bd_shell.specs.Transcript.{State, state_at, synced_state, MayGet, meanings};
-ghost use Rattle.bd_shell.specs.Session.{Executes, breaks};
-ghost use Rattle.bd_shell.specs.Shell.{KeptAt, ShellAt, Replies, ExecutesOne, view_in, acks_in, held_of, device_below, device_in, stop_below, stop_in, counts_of, CanStart, MayStart, FailsNoWrite, NamesBad, is_stopped, last_lines, completed, IsHeld, ComesNow, IsOutcome, CutsAt, IsLineFault, LineFails, RunFails, BreaksOff};
+ghost use Rattle.bd_shell.specs.Transcript.{State, state_at, synced_state, with_view, HasAcked, MayGet, durable, meanings, output};
+ghost use Rattle.bd_shell.specs.Session.{Executes, Later, breaks};
+ghost use Rattle.bd_shell.specs.Shell.{KeptAt, ShellAt, Acknowledges, Replies, ExecutesOne, view_in, acks_below, acks_in, held_of, device_below, device_in, stop_below, stop_in, counts_of, CanStart, MayStart, FailsNoWrite, NamesBad, is_stopped, last_lines, completed, IsHeld, ComesNow, IsOutcome, CutsAt, IsLineFault, LineFails, RunFails, BreaksOff};
 
 use crate::acknowledged::Acknowledged;
 use crate::fault::Fault;
@@ -65,6 +65,9 @@ fn execute<D: Device + Drop>(kept: &mut Acknowledged<D>, line: &Line) -> Result<
 
     // Whatever the volume stands for.
     ensures answer { IfOk result (MayGet (Ok line.now)) }
+    ensures acked { OnOk result
+        (HasAcked (durable (Ok line.now ∷ [])) (acks_below kept.old) (acks_below kept.new)) }
+    ensures unacked { OnErr result (acks_below kept.new ≡ acks_below kept.old) }
     ensures fault { IfErr result IsLineFault }
     ensures going { OnOk result (stop_below kept.new ≡ None) }
     ensures device { Stays D.Device (device_below kept.old) (device_below kept.new) }
@@ -125,6 +128,9 @@ fn execute_line<D: Device + Drop>(
 
     // Whatever the volume stands for.
     ensures answer { IfOk result (MayGet (line_of line.now)) }
+    ensures acked { OnOk result
+        (HasAcked (durable (line_of line.now ∷ [])) (acks_below kept.old) (acks_below kept.new)) }
+    ensures unacked { OnErr result (acks_below kept.new ≡ acks_below kept.old) }
     ensures fault { IfErr result IsLineFault }
     ensures going { OnOk result (stop_below kept.new ≡ None) }
     ensures device { Stays D.Device (device_below kept.old) (device_below kept.new) }
@@ -186,12 +192,14 @@ fn run_line<D: Device + Drop, K: Sink>(
     requires { stop_below kept.old ≡ None }
     ensures ok { OnOk result ((first : D) (since : ℕ)
         → ExecutesOne (KeptAt D.Device first since kept.old)
-        (KeptAt D.Device first since kept.new) (line_of line.now) (K.written sink.old)
-        (K.written sink.new)) }
+        (KeptAt D.Device first since kept.new) (line_of line.now)
+        (output (K.written sink.old) (acks_below kept.old))
+        (output (K.written sink.new) (acks_below kept.new))) }
     ensures err { IfErr result (λ e. (first : D) (since : ℕ)
         → RunFails e (KeptAt D.Device first since kept.old)
-        (KeptAt D.Device first since kept.new) (line_of line.now) (K.written sink.old)
-        (K.written sink.new)) }
+        (KeptAt D.Device first since kept.new) (line_of line.now)
+        (output (K.written sink.old) (acks_below kept.old))
+        (output (K.written sink.new) (acks_below kept.new))) }
     ensures flow { IfOk result (λ flow. breaks flow ≡ is_stop (line_of line.now)) }
     ensures going { OnOk result (stop_below kept.new ≡ None) }
     ensures device { Stays D.Device (device_below kept.old) (device_below kept.new) }
@@ -224,10 +232,11 @@ impl<D: Device + Drop> Shell<D> {
     pub fn new(alloc: Global, device: D) -> Result<Shell<D>, Refused<D>>
         ensures stands { IfOk result (λ shell. (t : Tree) (n : ℕ) → CanStart t n (D.contents device)
             → ShellAt D.Device (device_in shell) (D.call_count device + 1) shell
-            (state_at t n (view_in D.Device shell))) }
+            (state_at t n (view_in D.Device shell) (D.call_count (device_in shell)))) }
         ensures first { IfOk result (λ shell. (t : Tree) (n : ℕ) → IfSome (D.contents device)
             (λ image. ImageStandsFor t n image → IsFirstView image (view_in D.Device shell))) }
         ensures line { IfOk result (λ shell. held_of shell ≡ []) }
+        ensures acks { IfOk result (λ shell. acks_in shell ≡ []) }
         ensures going { IfOk result (λ shell. stop_in shell ≡ None) }
         ensures only { IfOk result (λ shell. OnlyStarts D.Device device (device_in shell)) }
         ensures faults { IfOk result (λ shell.
@@ -297,11 +306,13 @@ impl<D: Device + Drop> Shell<D> {
         ensures ok { OnOk result ((first : D) (since : ℕ)
             → ExecutesOne (ShellAt D.Device first since self.old)
             (ShellAt D.Device first since self.new) (line_of (held_of self.old ++ last.now))
-            (K.written sink.old) (K.written sink.new)) }
+            (output (K.written sink.old) (acks_in self.old))
+            (output (K.written sink.new) (acks_in self.new))) }
         ensures err { IfErr result (λ e. (first : D) (since : ℕ)
             → RunFails e (ShellAt D.Device first since self.old)
             (ShellAt D.Device first since self.new) (line_of (held_of self.old ++ last.now))
-            (K.written sink.old) (K.written sink.new)) }
+            (output (K.written sink.old) (acks_in self.old))
+            (output (K.written sink.new) (acks_in self.new))) }
         ensures line { OnOk result (held_of self.new ≡ []) }
         ensures flow { IfOk result (λ flow.
             breaks flow ≡ is_stop (line_of (held_of self.old ++ last.now))) }
@@ -335,11 +346,13 @@ impl<D: Device + Drop> Shell<D> {
         ensures ok { OnOk result ((first : D) (since : ℕ)
             → Executes (ShellAt D.Device first since self.old)
             (ShellAt D.Device first since self.new) (completed (held_of self.old) piece.now)
-            (K.written sink.old) (K.written sink.new)) }
+            (output (K.written sink.old) (acks_in self.old))
+            (output (K.written sink.new) (acks_in self.new))) }
         ensures err { IfErr result (λ e. (first : D) (since : ℕ)
             → BreaksOff e (ShellAt D.Device first since self.old)
             (ShellAt D.Device first since self.new) (held_of self.old) piece.now
-            (K.written sink.old) (K.written sink.new)) }
+            (output (K.written sink.old) (acks_in self.old))
+            (output (K.written sink.new) (acks_in self.new))) }
         ensures line { IfOk result (λ flow. breaks flow ≡ false
             → held_of self.new ≡ held (open_line (held_of self.old ++ piece.now))) }
         ensures flow { IfOk result
@@ -369,11 +382,13 @@ impl<D: Device + Drop> Shell<D> {
         ensures ok { OnOk result ((first : D) (since : ℕ)
             → Executes (ShellAt D.Device first since self.old)
             (ShellAt D.Device first since self.new) (last_lines (held_of self.old))
-            (K.written sink.old) (K.written sink.new)) }
+            (output (K.written sink.old) (acks_in self.old))
+            (output (K.written sink.new) (acks_in self.new))) }
         ensures err { IfErr result (λ e. (first : D) (since : ℕ)
             → RunFails e (ShellAt D.Device first since self.old)
             (ShellAt D.Device first since self.new) (line_of (held_of self.old))
-            (K.written sink.old) (K.written sink.new)) }
+            (output (K.written sink.old) (acks_in self.old))
+            (output (K.written sink.new) (acks_in self.new))) }
         ensures some { OnErr result (is_empty (held_of self.old) ≡ false) }
         ensures flow { IfOk result
             (λ flow. breaks flow ≡ list_any is_stop (last_lines (held_of self.old))) }
@@ -396,9 +411,12 @@ impl<D: Device + Drop> Shell<D> {
         requires { stop_in self.old ≡ None }
         ensures ok { OnOk result ((first : D) (since : ℕ) (s : State)
             → ShellAt D.Device first since self.old s
-            → ShellAt D.Device first since self.new (synced_state s)) }
+            → Later (synced_state s) (ShellAt D.Device first since self.new) s) }
         ensures err { OnErr result ((first : D) (since : ℕ) (s : State)
-            → ShellAt D.Device first since self.old s → ShellAt D.Device first since self.new s) }
+            → ShellAt D.Device first since self.old s
+            → Later (with_view s s.view) (ShellAt D.Device first since self.new) s) }
+        ensures acked { OnOk result (Acknowledges D.Device self.old.kept self.new.kept) }
+        ensures unacked { OnErr result (acks_in self.new ≡ acks_in self.old) }
         ensures kind { IfErr result (λ e. (e ≡ Fault.Device) ⊎ (e ≡ Fault.Memory)) }
         ensures going { OnOk result (stop_in self.new ≡ None) }
         ensures device { Stays D.Device (device_in self.old) (device_in self.new) }

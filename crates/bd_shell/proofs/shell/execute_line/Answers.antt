@@ -1,8 +1,8 @@
 -- A line that was read means what its bytes mean.
-use Rattle.std.proofs.Common.{ap}
+use Rattle.std.proofs.Common.{ap, refl}
 use Rattle.std.specs.declared.result.Result.TheVariants.{Err}
 use Rattle.bd_shell.proofs.Left.{leaves_all}
-use Rattle.bd_shell.proofs.Lines.{unread_replies}
+use Rattle.bd_shell.proofs.Lines.{unread_replies, acks_still}
 use Rattle.bd_shell.proofs.shell.execute_line.Goals as goal
 
 pub returns-in-Ok-clause-ok : goal.returns-in-Ok-clause-ok
@@ -24,3 +24,12 @@ returns-in-Err-BadPath-clause-ok g c first since s at =
 
 pub returns-in-Err-NoMemory-clause-err : goal.returns-in-Err-NoMemory-clause-err
 returns-in-Err-NoMemory-clause-err g c first since s at = leaves_all _ s _ at
+
+pub returns-in-Ok-clause-acked : goal.returns-in-Ok-clause-acked
+returns-in-Ok-clause-acked g c = rw c.in-Ok.ensures.meaning c.execute.ensures.acked
+
+pub returns-in-Err-BadLine-clause-acked : goal.returns-in-Err-BadLine-clause-acked
+returns-in-Err-BadLine-clause-acked g c = acks_still _ (Err _) _ (c.in-Err-BadLine.ensures.bad_line.0 (ap Err c.in-Err-BadLine.field-0-is)) refl
+
+pub returns-in-Err-BadPath-clause-acked : goal.returns-in-Err-BadPath-clause-acked
+returns-in-Err-BadPath-clause-acked g c = acks_still _ (Err _) _ (c.in-Err-BadPath.ensures.bad_path.0 (ap Err c.in-Err-BadPath.field-0-is)) refl

@@ -1,5 +1,5 @@
 -- The line is executed and its reply written, or a fault comes before it or within it.
-use Rattle.std.proofs.Common.{◌∙◌}
+use Rattle.std.proofs.Common.{refl, ◌∙◌}
 use Rattle.std.proofs.lemmas.Result.{err_from_is_err_and}
 use Rattle.bd_shell.proofs.Lines.{line_fails, may_small, may_stop, wrote_caused, sink_caused, fault_as}
 use Rattle.bd_shell.proofs.shell.run_line.Goals as goal
@@ -7,7 +7,7 @@ use Rattle.bd_shell.proofs.shell.run_line.Goals as goal
 pub returns-in_err-said-clause-err : goal.returns-in_err-said-clause-err
 returns-in_err-said-clause-err g c =
     let p = err_from_is_err_and c.from_residual.result c.from_residual.ensures.1 in
-    rw (p.1, p.2) (λ first since. line_fails c.in_err-said.field-0.0 _ _ _ _ c.in_err-said.ensures.fault (c.in_err-said.ensures.err first since))
+    rw (p.1, p.2) (λ first since. line_fails c.in_err-said.field-0.0 _ _ _ _ _ c.in_err-said.ensures.fault refl c.in_err-said.ensures.unacked (c.in_err-said.ensures.err first since))
 
 pub returns-in_err-said-clause-cause : goal.returns-in_err-said-clause-cause
 returns-in_err-said-clause-cause g c =
@@ -28,6 +28,7 @@ returns-in-Ok-clause-ok g c first since = record {
   answer = c.in_ok-said.ensures.answer;
   one_line = c.in-Ok.ensures.one_line;
   written = c.in-Ok.ensures.ok;
+  acked = c.in_ok-said.ensures.acked;
   replies = c.in_ok-said.ensures.ok first since;
 }
 
@@ -44,6 +45,7 @@ returns-clause-err g c first since = record {
   answer = c.in_ok-said.ensures.answer;
   one_line = c.in-Err.ensures.one_line;
   part = c.in-Err.ensures.part;
+  acked = c.in_ok-said.ensures.acked;
   replies = c.in_ok-said.ensures.ok first since;
 }
 

@@ -41,4 +41,4 @@ returns-clause-flow g c =
 pub returns-in_err-hold-clause-err : goal.returns-in_err-hold-clause-err
 returns-in_err-hold-clause-err g c =
     let p = err_from_is_err_and c.from_residual.result c.from_residual.ensures.1 in
-    rw (p.1, p.2) (λ first since. record { unwritten = refl; leaves = λ s at. leaves_all _ s _ at })
+    rw (p.1, p.2) (λ first since. record { unwritten = refl; unacked = refl; leaves = λ s at. leaves_all _ s _ at })

@@ -98,7 +98,7 @@ returns-clause-cause g c = went_on _ _ _ c.lines.invariant.counts
 pub returns-in_err-hold-clause-err : goal.returns-in_err-hold-clause-err
 returns-in_err-hold-clause-err g c =
     let p = err_from_is_err_and c.from_residual-in_err-hold.result c.from_residual-in_err-hold.ensures.1 in
-    rw (p.1, p.2) (λ first since. memory_fed _ _ _ _ _ _ _ _ _ _ (c.lines.invariant.fed first since) c.in_err-hold.ensures.some refl (λ t h. leaves_nothing t _ h))
+    rw (p.1, p.2) (λ first since. memory_fed _ _ _ _ _ _ _ _ _ _ (c.lines.invariant.fed first since) c.in_err-hold.ensures.some refl refl (λ t h. leaves_nothing t _ h))
 
 pub returns-in_err-hold-clause-writes : goal.returns-in_err-hold-clause-writes
 returns-in_err-hold-clause-writes g c =

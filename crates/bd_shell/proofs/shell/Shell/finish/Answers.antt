@@ -1,10 +1,17 @@
 -- What is held at the end is the last line.
-use Rattle.std.proofs.Common.{sym, ap, ◌∙◌, arith}
+use Rattle.std.proofs.Common.{◌≡◌, [], sym, ap, ◌∙◌, arith}
 use Rattle.std.specs.List.{list_any}
 use Rattle.std.proofs.lemmas.Grind.{common_steps}
+use Rattle.std.proofs.lemmas.List.{nil_from_length}
 use Rattle.bd_script.specs.Lines.{is_stop}
-use Rattle.bd_shell.proofs.Executes.{executes_as, executes_one, last_some, one_stop, on_ok_as, if_ok_as}
+use Rattle.bd_shell.specs.Shell.{last_lines}
+use Rattle.bd_shell.proofs.Executes.{executes_none, executes_as, executes_one, last_some, one_stop, on_ok_as, if_ok_as}
 use Rattle.bd_shell.proofs.shell.Shell.finish.Goals as goal
+
+pub returns-then-is_empty-clause-ok : goal.returns-then-is_empty-clause-ok
+returns-then-is_empty-clause-ok g c first since =
+    let none : c.args.self.now.line.items ≡ [] = nil_from_length c.args.self.now.line.items (grind (arith, common_steps)) in
+    executes_as _ _ [] _ _ _ (sym (ap last_lines none)) (executes_none _ _)
 
 pub returns-clause-ok : goal.returns-clause-ok
 returns-clause-ok g c =
