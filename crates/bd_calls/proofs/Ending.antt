@@ -84,11 +84,11 @@ stopped_idle s (e ∷ es) (l ∷ ls) h are some =
     by false is are more any = more are (subst (λ b. (b || list_any is_stop (executed (exchanges_of es))) ≡ true) is any)
 
 -- at the end all was made durable
-pub closed_idle : (s : State) (es : List Entry) (ls : List LineMeaning) → IsTranscript s es → executed (exchanges_of es) ≡ up_to_stop ls
-    → (closed None (list_any is_stop (executed (exchanges_of es))) (state_after s es)).view.waiting ≡ 0
-closed_idle s es ls h are = by (list_any is_stop (executed (exchanges_of es))) (stopped_idle s es ls h are)
+pub closed_idle : (s : State) (es : List Entry) (ls : List LineMeaning) (calls : ℕ) → IsTranscript s es → executed (exchanges_of es) ≡ up_to_stop ls
+    → (closed None (list_any is_stop (executed (exchanges_of es))) calls (state_after s es)).view.waiting ≡ 0
+closed_idle s es ls calls h are = by (list_any is_stop (executed (exchanges_of es))) (stopped_idle s es ls h are)
   where
-    by : (b : Bool) → (b ≡ true → (state_after s es).view.waiting ≡ 0) → (closed None b (state_after s es)).view.waiting ≡ 0
+    by : (b : Bool) → (b ≡ true → (state_after s es).view.waiting ≡ 0) → (closed None b calls (state_after s es)).view.waiting ≡ 0
     by true idle = idle refl
     by false idle = refl
 

@@ -32,25 +32,24 @@ use Rattle.bd_shell.specs.Fault.{status_of, fault_line, Faults, faults, Caused, 
 use Rattle.bd_shell.specs.Transcript.{State, Exchange, IsAnswered, text, executed, lines_to_run}
 use Rattle.bd_shell.specs.Session.{Among, IsAtLine, Replied, TakenAt, end_of}
 use Rattle.bd_calls.specs.Fill.{CanEndLines, EndsLines, TellsSummary, WritesSome, cut_status, named, result_named, said_in}
-use Rattle.bd_calls.specs.Run.{Disk, Ends, ends, apart, Ran, RanGenerated, Transcribed, IsLast, IsTold, IsWornAtStart, WritesEnd, WritesLast, HasStart, IsFaultless, IsDetached, Seen, end_status}
+use Rattle.bd_calls.specs.Run.{Disk, Ends, ends, apart, Ran, RanGenerated, Transcribed, IsLast, IsTold, HasBegun, HasNotStarted, WritesEnd, WritesLast, HasStart, IsFaultless, IsDetached, Seen, end_status}
 use Rattle.bd_calls.proofs.Runs.{run_complete}
 
 -- ---- want of memory by its own name
-
-no_worn : (xs : List Exchange) (image : Image) → IsWornAtStart (Some Source) xs image → ⊥
-no_worn xs image h = let e = h.end_is in cc
 
 last_named : (settled : ℕ) (xs : List Exchange) (taken : List ℕ) (script : Option (List ℕ)) (acks : List Ack) (image : Image) (before now : Disk) (s : State)
     → IsLast settled (Some Source) xs taken script acks image before now s → IsLast settled (Some Memory) xs taken script acks image before now s
 last_named settled xs taken script acks image before now s h = record {
   told = inl (told h.told);
+  later = h.later;
+  calls = (let same : now.calls ≡ s.calls = h.calls in omega (arith, same));
   survives = h.survives;
   shown = λ none. absurd (impossible none);
 }
   where
-    told : IsTold (Some Source) xs taken script s ⊎ IsWornAtStart (Some Source) xs image → IsTold (Some Memory) xs taken script s
+    told : IsTold (Some Source) xs taken script s ⊎ HasNotStarted (Some Source) xs image → IsTold (Some Memory) xs taken script s
     told (inl t) = record { told = t.told; told_script = t.told_script }
-    told (inr w) = absurd (no_worn xs image w)
+    told (inr unstarted) = absurd unstarted.why
 
     impossible : Some Memory ≡ None → ⊥
     impossible e = cc
@@ -59,7 +58,8 @@ transcribed_named : (settled : ℕ) (t : Tree) (n : ℕ) (image : Image) (xs : L
     → Transcribed settled t n image (Some Source) xs taken script acks before now → Transcribed settled t n image (Some Memory) xs taken script acks before now
 transcribed_named settled t n image xs taken script acks before now h = record {
   first = h.first;
-  first_is = h.first_is;
+  calls = h.calls;
+  begun = inl (begun h.begun);
   run = record {
     entries = h.run.entries;
     exchanges_are = h.run.exchanges_are;
@@ -67,6 +67,10 @@ transcribed_named settled t n image xs taken script acks before now h = record {
     reached = last_named settled xs taken script acks image before now _ h.run.reached;
   };
 }
+  where
+    begun : HasBegun settled image h.first h.calls ⊎ HasNotStarted (Some Source) xs image → HasBegun settled image h.first h.calls
+    begun (inl view) = view
+    begun (inr unstarted) = absurd unstarted.why
 
 source_named : (settled : ℕ) (acks : List Ack) (before now : Ends) → Ran settled (Some Source) acks before now → Ran settled (Some Memory) acks before now
 source_named settled acks before now h = record {
@@ -82,6 +86,8 @@ source_named settled acks before now h = record {
   among_taken = h.among_taken;
   among_script = h.among_script;
   taken_at = h.taken_at.0;
+  read_out = tt;
+  acked = h.acked;
   replied = h.replied;
   damage = tt;
   transcribed = λ t n image is stands. transcribed_named settled t n image h.exchanges h.taken before.script acks before.disk now.disk (h.transcribed t n image is stands);
@@ -298,6 +304,8 @@ other_faults settled end acks before now s s' w w' t t' f f' g g' h = record {
   among_taken = h.among_taken;
   among_script = h.among_script;
   taken_at = h.taken_at;
+  read_out = h.read_out;
+  acked = h.acked;
   replied = h.replied;
   damage = h.damage;
   transcribed = h.transcribed;

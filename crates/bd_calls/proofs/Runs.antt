@@ -1,7 +1,7 @@
 -- How a whole run begins and ends.
-use Rattle.std.proofs.Common.{◌≡◌, ◌⊎◌, ◌≢◌, ◌↔◌, ℕ, ◌+◌, ◌^◌, ◌<◌, ◌≤◌, Bool, false, List, [], ◌∷◌, ◌++◌, length, refl, sym, ap, subst, ◌∙◌, arith, inl, inr, length-append}
+use Rattle.std.proofs.Common.{◌≡◌, ◌⊎◌, ◌≢◌, ◌↔◌, ℕ, ◌+◌, ◌^◌, ◌<◌, ◌≤◌, Bool, true, false, List, [], ◌∷◌, ◌++◌, length, refl, sym, ap, subst, ◌∙◌, arith, inl, inr, length-append}
 use Rattle.std.specs.Prelude.{map, is_err, IfSome, IsSomeAnd, OnOk}
-use Rattle.std.specs.List.{AllByRecursion, Contains, list_any}
+use Rattle.std.specs.List.{AllByRecursion, Contains}
 use Rattle.std.specs.declared.result.Result.{Result}
 use Rattle.std.specs.declared.result.Result.TheVariants.{Ok, Err}
 use Rattle.std.specs.declared.option.Option.{Option}
@@ -24,7 +24,7 @@ use Rattle.bd_checkpoint.specs.Kept.{AllStandFor}
 use Rattle.bd_checkpoint.specs.Recovering.{IsBadIn}
 use Rattle.bd_view.specs.Views.{View, fresh_view}
 use Rattle.bd_engine.specs.Stored.{HasSaved}
-use Rattle.bd_script.specs.Lines.{is_stop, line_of, lines_of}
+use Rattle.bd_script.specs.Lines.{line_of, lines_of}
 use Rattle.bd_volume.specs.Faults.{IsStartCause}
 use Rattle.bd_volume.specs.Starts.{OnlyStarts}
 use Rattle.bd_volume.specs.Volume.{IsFirstView}
@@ -36,14 +36,14 @@ use Rattle.bd_shell.specs.declared.fault.Fault.TheVariants.{Device, Damaged, Sou
 use Rattle.bd_shell.specs.declared.outcome.Ack.{Ack}
 use Rattle.bd_shell.specs.declared.shell.Shell.{Shell}
 use Rattle.bd_shell.specs.Fault.{status_of, Faults, faults, IsStartFault, Caused, IsCaused}
-use Rattle.bd_shell.specs.Transcript.{State, point, state_at, with_view, Exchange, Entry, IsTranscript, executed, exchanges_of, state_after, lines_to_run}
+use Rattle.bd_shell.specs.Transcript.{State, point, state_at, synced_state, with_view, Exchange, Entry, IsTranscript, HasAcked, durable, executed, exchanges_of, output, state_after, lines_to_run}
 use Rattle.bd_shell.specs.Crashes.{IsAtPoint, IsAcked, IsSafeSince}
-use Rattle.bd_shell.specs.Session.{end_of, has_stop, closed, ClosedAt, Among, TakenAt, Replied, Ends as EndsBy, Session}
+use Rattle.bd_shell.specs.Session.{end_of, acks_at_end, has_stop, closed, ClosedAt, Among, TakenAt, Replied, Ends as EndsBy, Session}
 use Rattle.bd_shell.specs.Shell.{CanStart, MayStart, ShellAt, IsLineFault, NamesBad, view_in, acks_in, device_in, stop_in}
-use Rattle.bd_calls.specs.Run.{Disk, disk, Ends, ends, end_status, WritesEnd, IsTold, IsWornAtStart, IsUnopened, Survives, Shows, NamesDamage, Ran, HasStart, IsFaultless}
+use Rattle.bd_calls.specs.Run.{Disk, disk, Ends, ends, end_status, WritesEnd, IsTold, CallsAtEnd, HasBegun, HasNotStarted, KeepsFromStarting, IsUnopened, Survives, Shows, NamesDamage, Ran, HasStart, IsFaultless}
 use Rattle.bd_shell.proofs.Executes.{append_known-nil}
 use Rattle.bd_shell.proofs.Scripts.{prepend_known-nil, took_none}
-use Rattle.bd_shell.proofs.Surviving.{since_begun, safe_more}
+use Rattle.bd_shell.proofs.Surviving.{since_begun}
 use Rattle.bd_calls.proofs.Ending.{settled_all, closed_idle, some_blocks, shown_by}
 use Rattle.bd_shell.proofs.Keeping.{closed_passed}
 use Rattle.bd_shell.proofs.Starts.{at_begun, begun_at}
@@ -98,51 +98,107 @@ ok_of_none (Err e) P is h = cc
 abbrev pub disk_of : {D : Type 0} → Ghosts D → D → Disk
 disk_of g d = disk (g.contents d) (g.call_count d) (g.left_since d) (g.write_fault_count d)
 
+-- what was acknowledged holds whatever the view is and however many calls there were
+acked_view : (u : State) (view : View) (calls now : ℕ) (left : ℕ → Image → Type 0) (acks : List Ack) → AllByRecursion (IsAcked (with_view u view calls) now left) acks
+    → AllByRecursion (IsAcked u now left) acks
+acked_view u view calls now left [] h = tt
+acked_view u view calls now left (a ∷ acks) h = (record { past = h.0.past; few = h.0.few; kept = h.0.kept }, acked_view u view calls now left acks h.1)
+
+-- where nothing was acknowledged before
+acks_counted : (count : ℕ) (old new : List Ack) → old ≡ [] → HasAcked count old new → length new ≡ count
+acks_counted count old new none h = ap length (h.acks_are ∙ ap (λ l. l ++ h.more) none) ∙ h.count_is
+
+-- a state is closed with the calls that it then has
+closed_now : (calls now : ℕ) (stopped : Bool) (u : State) (at : State → Type 0) → ((x : State) → at x → x.calls ≡ now) → at (closed None stopped calls u)
+    → at (closed None stopped now u)
+closed_now calls now true u at same h = h
+closed_now calls now false u at same h = subst (λ k. at (synced_state u k)) (same (synced_state u calls) h) h
+
+-- which are no fewer than before
+closed_later : (calls now : ℕ) (stopped : Bool) (u : State) → u.calls ≤ calls → (closed None stopped calls u).calls ≡ now → u.calls ≤ now
+closed_later calls now true u later is = let same : u.calls ≡ now = is in omega (arith, same)
+closed_later calls now false u later is = let same : calls ≡ now = is in omega (arith, later, same)
+
+-- at a session's end a state of the same points, count and acknowledgements as this one is safe; the
+-- device's calls are no fewer than after the last line
+record IsEnded {D : Type 0} (g : Ghosts D) (end : Option Fault) (first : D) (since : ℕ) (now : D) (acks : List Ack) (u x : State) : Type 0 where
+  view : View
+  calls : ℕ
+  safe : IsSafeSince g first since now acks (with_view x view calls)
+  later : u.calls ≤ g.call_count now
+  called : CallsAtEnd end x.calls (g.call_count now)
+
 module _ {D : Type 0} (g : Ghosts D) where
-  -- the view doesn't count
-  as_view : (first : D) (since : ℕ) (now : D) (acks : List Ack) (u : State) (left : View) → IsSafeSince g first since now acks (with_view u left)
-      → IsSafeSince g first since now acks u
-  as_view first since now acks u left safe = safe_more g first since now acks (with_view u left) u (λ p h. h) (omega arith) safe.here refl safe
+  closed_at : (stopped : Bool) (u : State) (first : D) (since : ℕ) (shell : Shell D) → ClosedAt None (ShellAt g first since shell) stopped u
+      → ShellAt g first since shell (closed None stopped (g.call_count (device_in shell)) u)
+  closed_at stopped u first since shell h =
+      closed_now h.calls (g.call_count (device_in shell)) stopped u (ShellAt g first since shell) (λ x at. at.safe.calls) h.reached
+
+  -- no line's fault ended it
+  ended_at : (end : Option Fault) (u : State) (first : D) (since : ℕ) (shell : Shell D) → ((n : ℕ) → CallsAtEnd end n n) → ShellAt g first since shell u
+      → IsEnded g end first since (device_in shell) (acks_in shell) u u
+  ended_at end u first since shell own at =
+      let same : u.calls ≡ g.call_count (device_in shell) = at.safe.calls in
+      record { view = u.view; calls = u.calls; safe = at.safe; later = omega (arith, same); called = subst (CallsAtEnd end u.calls) same (own u.calls) }
+
+  -- a line's fault did
+  ended_left : (end : Option Fault) (u : State) (first : D) (since : ℕ) (shell : Shell D) → ((n k : ℕ) → n ≤ k → CallsAtEnd end n k) → (view : View) (calls : ℕ)
+      → u.calls ≤ calls → ShellAt g first since shell (with_view u view calls) → IsEnded g end first since (device_in shell) (acks_in shell) u u
+  ended_left end u first since shell more view calls later at =
+      let same : calls ≡ g.call_count (device_in shell) = at.safe.calls in
+      let few : u.calls ≤ g.call_count (device_in shell) = omega (arith, later, same) in
+      record { view = view; calls = calls; safe = at.safe; later = few; called = more u.calls (g.call_count (device_in shell)) few }
 
   -- what a crash leaves at a session's end
   ended_safe : (end : Option Fault) (stopped : Bool) (u : State) (first : D) (since : ℕ) (shell : Shell D)
       → EndsBy end u (ClosedAt end (ShellAt g first since shell) stopped)
-      → IsSafeSince g first since (device_in shell) (acks_in shell) (closed end stopped u)
-  ended_safe None stopped u first since shell h = h.safe
-  ended_safe (Some Device) stopped u first since shell h = as_view first since (device_in shell) (acks_in shell) u h.1.left h.1.reached.safe
+      → IsEnded g end first since (device_in shell) (acks_in shell) u (closed end stopped (g.call_count (device_in shell)) u)
+  ended_safe None stopped u first since shell h =
+      let at : ShellAt g first since shell (closed None stopped (g.call_count (device_in shell)) u) = closed_at stopped u first since shell h in
+      record {
+        view = (closed None stopped (g.call_count (device_in shell)) u).view;
+        calls = (closed None stopped (g.call_count (device_in shell)) u).calls;
+        safe = at.safe;
+        later = closed_later h.calls (g.call_count (device_in shell)) stopped u h.later h.reached.safe.calls;
+        called = sym at.safe.calls;
+      }
+  ended_safe (Some Device) stopped u first since shell h = ended_left (Some Device) u first since shell (λ n k few. few) h.1.left h.1.calls h.1.later h.1.reached.reached
   ended_safe (Some (Damaged block)) stopped u first since shell h = absurd h
-  ended_safe (Some Source) stopped u first since shell h = h.safe
-  ended_safe (Some Memory) stopped u first since shell h = as_view first since (device_in shell) (acks_in shell) u h.1.left h.1.reached.safe
-  ended_safe (Some TooLong) stopped u first since shell h = h.safe
-  ended_safe (Some (Worn which)) stopped u first since shell h = as_view first since (device_in shell) (acks_in shell) u h.1.left h.1.reached.safe
-  ended_safe (Some Sink) stopped u first since shell h = h.safe
+  ended_safe (Some Source) stopped u first since shell h = ended_at (Some Source) u first since shell (λ n. refl) h.reached
+  ended_safe (Some Memory) stopped u first since shell h = ended_left (Some Memory) u first since shell (λ n k few. few) h.1.left h.1.calls h.1.later h.1.reached.reached
+  ended_safe (Some TooLong) stopped u first since shell h = ended_at (Some TooLong) u first since shell (λ n. refl) h.reached
+  ended_safe (Some (Worn which)) stopped u first since shell h =
+      ended_left (Some (Worn which)) u first since shell (λ n k few. few) h.1.left h.1.calls h.1.later h.1.reached.reached
+  ended_safe (Some Sink) stopped u first since shell h = ended_at (Some Sink) u first since shell (λ n. refl) h.reached
 
   -- from the start of the volume on
-  survives : (settled : ℕ) (xs : List Exchange) (old first now : D) (acks : List Ack) (x : State) → Goes g old first (IsAtPoint x.passed 0)
-      → IsSafeSince g first settled now acks x → Survives settled xs acks (disk_of g old) (disk_of g now) x
-  survives settled xs old first now acks x started safe = record {
+  survives : (settled : ℕ) (xs : List Exchange) (old first now : D) (acks : List Ack) (x : State) (view : View) (calls : ℕ) → Goes g old first (IsAtPoint x.passed 0)
+      → IsSafeSince g first settled now acks (with_view x view calls) → Survives settled xs acks (disk_of g old) (disk_of g now) x
+  survives settled xs old first now acks x view calls started safe = record {
     stopped = goes_on (IsAtPoint x.passed 0) (IsAtPoint x.passed 0) started safe.time (λ c h. h);
-    opened = inl (since_begun g first settled now acks x safe);
-    acked = safe.acked;
-    counts = safe.counts;
+    opened = inl (since_begun g first settled now acks (with_view x view calls) safe);
+    acked = acked_view x view calls (g.call_count now) (g.left_since now) acks safe.acked;
+    acks_are = safe.acks_are;
   }
 
   -- at the end of a script what is shown stands for the state
   shown_last : (end : Option Fault) (stopped : Bool) (u : State) (first : D) (since : ℕ) (shell : Shell D) → end ≡ None
-      → EndsBy end u (ClosedAt end (ShellAt g first since shell) stopped) → (closed end stopped u).view.waiting ≡ 0 → stop_in shell ≡ None
+      → EndsBy end u (ClosedAt end (ShellAt g first since shell) stopped) → (closed end stopped (g.call_count (device_in shell)) u).view.waiting ≡ 0 → stop_in shell ≡ None
       → IfSome (g.contents (device_in shell)) (left_now g (device_in shell)) → IfSome (g.contents (device_in shell)) (HasSaved (view_in g shell))
-      → IfSome (g.contents (device_in shell)) (Shows (closed end stopped u))
+      → IfSome (g.contents (device_in shell)) (Shows (closed end stopped (g.call_count (device_in shell)) u))
   shown_last None stopped u first since shell none h idle going among saved =
-      let x : State = closed None stopped u in
-      shown_by (g.contents (device_in shell)) (left_now g (device_in shell)) (view_in g shell) x h.at.view_is
-      (settled_all g _ x.tree x.count h.at.stands going (ap (λ (v : View). v.waiting) h.at.view_is ∙ idle)) among saved
+      let x : State = closed None stopped (g.call_count (device_in shell)) u in
+      let at : ShellAt g first since shell x = closed_at stopped u first since shell h in
+      shown_by (g.contents (device_in shell)) (left_now g (device_in shell)) (view_in g shell) x at.at.view_is
+      (settled_all g _ x.tree x.count at.at.stands going (ap (λ (v : View). v.waiting) at.at.view_is ∙ idle)) among saved
   shown_last (Some e) stopped u first since shell none h idle going among saved = cc
 
   -- a session of a volume that started
   pub ran_session : (end : Option Fault) (old : D) (before after : Shell D) (script rest w1 w2 : Option (List ℕ)) (t1 t2 : Option Takes) (b a : Faults)
       → Session end (ShellAt g (device_in before) (g.call_count old + 1) before) (ClosedAt end (ShellAt g (device_in before) (g.call_count old + 1) after))
-      script rest t1 t2 w1 w2
-      → ((t : Tree) (n : ℕ) → CanStart t n (g.contents old) → ShellAt g (device_in before) (g.call_count old + 1) before (state_at t n (view_in g before)))
+      (acks_at_end end) script rest t1 t2 (output w1 (acks_in before)) (output w2 (acks_in after)) → acks_in before ≡ []
+      → ((t : Tree) (n : ℕ) → CanStart t n (g.contents old)
+      → ShellAt g (device_in before) (g.call_count old + 1) before (state_at t n (view_in g before) (g.call_count (device_in before))))
       → ((t : Tree) (n : ℕ) → IfSome (g.contents old) (λ image. ImageStandsFor t n image → IsFirstView image (view_in g before)))
       → OnlyStarts g old (device_in before) → (end ≡ None → stop_in after ≡ None)
       → (stop_in after ≡ None → IfSome (g.contents (device_in after)) (HasSaved (view_in g after)))
@@ -150,7 +206,7 @@ module _ {D : Type 0} (g : Ghosts D) where
       → IfSome (g.contents old) (HasBlocks (g.block_count old)) → g.block_count (device_in after) ≡ g.block_count old
       → ((xs : List Exchange) → NamesDamage end xs (g.contents old) (g.contents (device_in after)))
       → Ran (g.call_count old + 1) end (acks_in after) (ends (disk_of g old) script t1 w1 b) (ends (disk_of g (device_in after)) rest t2 w2 a)
-  ran_session end old before after script rest w1 w2 t1 t2 b a s begins views only going saved may_stay shape same_size damage = record {
+  ran_session end old before after script rest w1 w2 t1 t2 b a s none_before begins views only going saved may_stay shape same_size damage = record {
     exchanges = s.exchanges;
     answered = s.answered;
     front = s.front;
@@ -163,42 +219,52 @@ module _ {D : Type 0} (g : Ghosts D) where
     among_taken = s.among_taken;
     among_script = s.among_script;
     taken_at = s.taken_at;
+    read_out = s.read_out;
+    acked = acks_counted (durable (executed s.exchanges) + acks_at_end end (has_stop s.exchanges)) (acks_in before) (acks_in after) none_before s.acked;
     replied = s.replied;
     damage = damage s.exchanges;
     transcribed = λ t n image is stands.
-        let x0 : State = state_at t n (view_in g before) in
+        let x0 : State = state_at t n (view_in g before) (g.call_count (device_in before)) in
         let start : CanStart t n (g.contents old) = can_start t n (g.contents old) image is stands in
         let h = s.runs x0 (begins t n start) in
         let u : State = state_after x0 h.entries in
-        let x : State = closed end (has_stop s.exchanges) u in
-        let passed : Contains x.passed (point t n) = closed_passed end (has_stop s.exchanges) x0 h.entries h.transcript (point t n) (Contains-push [] (point t n)) in
-        let lines : has_stop s.exchanges ≡ list_any is_stop (executed (exchanges_of h.entries)) = ap has_stop (sym h.exchanges_are) in
+        let calls : ℕ = g.call_count (device_in after) in
+        let x : State = closed end (has_stop s.exchanges) calls u in
+        let ended : IsEnded g end (device_in before) (g.call_count old + 1) (device_in after) (acks_in after) u x =
+        ended_safe end (has_stop s.exchanges) u (device_in before) (g.call_count old + 1) after h.reached.reached in
+        let passed : Contains x.passed (point t n) =
+        closed_passed end (has_stop s.exchanges) calls x0 h.entries h.transcript (point t n) (Contains-push [] (point t n)) in
         record {
           first = view_in g before;
-          first_is = inl (if_some (λ i. ImageStandsFor t n i → IsFirstView i (view_in g before)) (g.contents old) image is (views t n) stands);
+          calls = g.call_count (device_in before);
+          begun = inl (record {
+            view = if_some (λ i. ImageStandsFor t n i → IsFirstView i (view_in g before)) (g.contents old) image is (views t n) stands;
+            opened = (begins t n start).safe.early;
+          });
           run = record {
             entries = h.entries;
             exchanges_are = h.exchanges_are;
             transcript = h.transcript;
             reached = record {
               told = inl (record { told = h.reached.told; told_script = h.reached.told_script });
-              survives = survives (g.call_count old + 1) s.exchanges old (device_in before) (device_in after) (acks_in after)
-                  x (within (ImageStandsFor t n) (IsAtPoint x.passed 0) (only.time t n start) (λ c like. at_begun x.passed t n c passed like))
-                  (ended_safe end (has_stop s.exchanges) u (device_in before) (g.call_count old + 1) after h.reached.reached);
+              later = ended.later;
+              calls = ended.called;
+              survives = survives (g.call_count old + 1) s.exchanges old (device_in before) (device_in after) (acks_in after) x ended.view ended.calls
+                  (within (ImageStandsFor t n) (IsAtPoint x.passed 0) (only.time t n start) (λ c like. at_begun x.passed t n c passed like)) ended.safe;
               shown = λ none. shown_last end (has_stop s.exchanges) u (device_in before) (g.call_count old + 1) after none h.reached.reached
-                  (idle_at end s.exchanges s.taken none s.among_taken x0 h.entries h.transcript h.exchanges_are) (going none)
+                  (idle_at end s.exchanges s.taken calls none s.among_taken x0 h.entries h.transcript h.exchanges_are) (going none)
                   (may_stay (omega (arith, same_size, some_blocks t n (g.block_count old) (g.contents old) image is stands shape))) (saved (going none));
             };
           };
         };
   }
     where
-      idle_at : (e : Option Fault) (xs : List Exchange) (taken : List ℕ) → e ≡ None → Among e taken xs → (x0 : State) (es : List Entry) → IsTranscript x0 es
-          → exchanges_of es ≡ xs → (closed e (has_stop xs) (state_after x0 es)).view.waiting ≡ 0
-      idle_at None xs taken none among x0 es transcript is =
-          subst (λ ys. (closed None (has_stop ys) (state_after x0 es)).view.waiting ≡ 0) is
-          (closed_idle x0 es (map line_of (lines_of taken)) transcript (ap executed is ∙ among))
-      idle_at (Some e) xs taken none among x0 es transcript is = cc
+      idle_at : (e : Option Fault) (xs : List Exchange) (taken : List ℕ) (calls : ℕ) → e ≡ None → Among e taken xs → (x0 : State) (es : List Entry) → IsTranscript x0 es
+          → exchanges_of es ≡ xs → (closed e (has_stop xs) calls (state_after x0 es)).view.waiting ≡ 0
+      idle_at None xs taken calls none among x0 es transcript is =
+          subst (λ ys. (closed None (has_stop ys) calls (state_after x0 es)).view.waiting ≡ 0) is
+          (closed_idle x0 es (map line_of (lines_of taken)) calls transcript (ap executed is ∙ among))
+      idle_at (Some e) xs taken calls none among x0 es transcript is = cc
 
 -- ---- a volume that didn't start
 
@@ -241,33 +307,49 @@ ran_refused settled e before now script w takes b a kind sound worn time opened 
   among_taken = at_line e [] kind;
   among_script = all e script kind;
   taken_at = few e kind;
+  read_out = tt;
+  acked = refl;
   replied = unwritten e kind;
   damage = named e bad;
-  transcribed = λ t n i is stands. record {
-    first = fresh_view 0;
-    first_is = inr (refl, refl);
-    run = record {
-      entries = [];
-      exchanges_are = refl;
-      transcript = tt;
-      reached = record {
-        told = tells e kind (sound t n i is stands) i (worn t n i is stands) (state_at t n (fresh_view 0));
-        survives = record {
-          stopped = within (ImageStandsFor t n) (IsAtPoint (state_at t n (fresh_view 0)).passed 0) (time t n i is stands) (begun_at t n (fresh_view 0));
-          opened = open_by t n (opened t n i is stands);
-          acked = tt;
-          counts = refl;
+  transcribed = λ t n i is stands.
+      let unstarted : HasNotStarted (Some e) [] i = record { none = refl; why = unstarted_by e i kind (sound t n i is stands) (worn t n i is stands) } in
+      record {
+        first = fresh_view 0;
+        calls = now.calls;
+        begun = inr unstarted;
+        run = record {
+          entries = [];
+          exchanges_are = refl;
+          transcript = tt;
+          reached = record {
+            told = inr unstarted;
+            later = omega arith;
+            calls = called e;
+            survives = record {
+              stopped = within (ImageStandsFor t n) (IsAtPoint (point t n ∷ []) 0) (time t n i is stands) (begun_at t n);
+              opened = open_by t n (opened t n i is stands);
+              acked = tt;
+              acks_are = refl;
+            };
+            shown = λ none. cc;
+          };
         };
-        shown = λ none. cc;
       };
-    };
-  };
 }
   where
     open_by : (t : Tree) (n : ℕ) → AllStandFor t n (now.left settled) ⊎ IsUnmade settled before now
-        → ((c : Image) → now.left settled c → IsAtPoint (state_at t n (fresh_view 0)).passed 0 c) ⊎ IsUnopened settled [] before now
-    open_by t n (inl each) = inl (λ c left. begun_at t n (fresh_view 0) c (each c left))
+        → ((c : Image) → now.left settled c → IsAtPoint (point t n ∷ []) 0 c) ⊎ IsUnopened settled [] before now
+    open_by t n (inl each) = inl (λ c left. begun_at t n c (each c left))
     open_by t n (inr why) = inr (record { none = refl; why = why })
+
+    called : (f : Fault) → CallsAtEnd (Some f) now.calls now.calls
+    called Device = omega arith
+    called (Damaged block) = omega arith
+    called Source = refl
+    called Memory = omega arith
+    called TooLong = refl
+    called (Worn which) = omega arith
+    called Sink = refl
 
     at_line : (f : Fault) (bs : List ℕ) → IsLineFault f → Among (Some f) bs []
     at_line Device bs k = (lines_to_run bs, refl)
@@ -309,19 +391,15 @@ ran_refused settled e before now script w takes b a kind sound worn time opened 
     unwritten (Worn which) k = sym (append_known-nil w)
     unwritten Sink k = absurd k
 
-    any_script : (P : Type 0) (o : Option (List ℕ)) → P → IfSome o (λ _. P)
-    any_script P None h = tt
-    any_script P (Some bs) h = h
-
-    tells : (f : Fault) → IsLineFault f → ((block : ℕ) → f ≡ Damaged block → ⊥) → (i : Image) → ((which : Counter) → f ≡ Worn which → WearsReplaying which i)
-        → (u : State) → IsTold (Some f) [] [] script u ⊎ IsWornAtStart (Some f) [] i
-    tells Device k sound_at i worn u = inl (record { told = tt; told_script = any_script (Unit {0}) script tt })
-    tells (Damaged block) k sound_at i worn u = absurd (sound_at block refl)
-    tells Source k sound_at i worn u = absurd k
-    tells Memory k sound_at i worn u = inl (record { told = tt; told_script = any_script (Unit {0}) script tt })
-    tells TooLong k sound_at i worn u = absurd k
-    tells (Worn which) k sound_at i worn u = inr (record { which = which; end_is = refl; none = refl; worn = worn which refl })
-    tells Sink k sound_at i worn u = absurd k
+    unstarted_by : (f : Fault) (i : Image) → IsLineFault f → ((block : ℕ) → f ≡ Damaged block → ⊥) → ((which : Counter) → f ≡ Worn which → WearsReplaying which i)
+        → KeepsFromStarting (Some f) i
+    unstarted_by Device i k sound_at worn = tt
+    unstarted_by (Damaged block) i k sound_at worn = sound_at block refl
+    unstarted_by Source i k sound_at worn = k
+    unstarted_by Memory i k sound_at worn = tt
+    unstarted_by TooLong i k sound_at worn = k
+    unstarted_by (Worn which) i k sound_at worn = worn which refl
+    unstarted_by Sink i k sound_at worn = k
 
 -- the run's fault is as the volume's
 pub start_kind : (v : VolumeFault) (e : Fault) → IsStartFault v e → IsLineFault e
@@ -381,13 +459,13 @@ acked_named s now old new (a ∷ acks) same h =
     (record { past = h.0.past; few = h.0.few; kept = λ c left. h.0.kept c (same a.calls c left) }, acked_named s now old new acks same h.1)
 
 -- what is left of a run by its image's name, which was attached
-pub ran_attached : (end : Option Fault) (acks : List Ack) (before mid after now : Disk) (script rest w1 w2 : Option (List ℕ)) (t1 t2 : Option Takes) (b m a : Faults)
+pub ran_attached : (end : Option Fault) (acks : List Ack) (before mid : Disk) (known shown : Option Image) (calls : ℕ) (since left : ℕ → Image → Type 0) (writes : ℕ)
+    (script rest w1 w2 : Option (List ℕ)) (t1 t2 : Option Takes) (b m a : Faults)
     → mid.image ≡ before.image → mid.calls ≡ before.calls + 1 → mid.write_faults ≡ before.write_faults
-    → Elapses before.calls mid.calls before.left mid.left Nothing → now.image ≡ after.image → now.calls ≡ after.calls → now.write_faults ≡ after.write_faults
-    → ((t : ℕ) (c : Image) → now.left t c ↔ after.left t c)
-    → Ran (mid.calls + 1) end acks (ends mid script t1 w1 m) (ends after rest t2 w2 a)
-    → Ran (before.calls + 2) end acks (ends before script t1 w1 b) (ends now rest t2 w2 a)
-ran_attached end acks before mid after now script rest w1 w2 t1 t2 b m a image_is calls_are faults_are time shows calls faults named r = record {
+    → Elapses before.calls mid.calls before.left mid.left Nothing → shown ≡ known → ((t : ℕ) (c : Image) → left t c ↔ since t c)
+    → Ran (mid.calls + 1) end acks (ends mid script t1 w1 m) (ends (disk known calls since writes) rest t2 w2 a)
+    → Ran (before.calls + 2) end acks (ends before script t1 w1 b) (ends (disk shown calls left writes) rest t2 w2 a)
+ran_attached end acks before mid known shown calls since left writes script rest w1 w2 t1 t2 b m a image_is calls_are faults_are time shows named r = record {
   exchanges = r.exchanges;
   answered = r.answered;
   front = r.front;
@@ -400,30 +478,33 @@ ran_attached end acks before mid after now script rest w1 w2 t1 t2 b m a image_i
   among_taken = r.among_taken;
   among_script = r.among_script;
   taken_at = r.taken_at;
+  read_out = r.read_out;
+  acked = r.acked;
   replied = r.replied;
-  damage = subst (λ o. NamesDamage end r.exchanges o now.image) image_is (subst (λ o. NamesDamage end r.exchanges mid.image o) (sym shows) r.damage);
+  damage = subst (λ o. NamesDamage end r.exchanges o shown) image_is (subst (λ o. NamesDamage end r.exchanges mid.image o) (sym shows) r.damage);
   transcribed = λ t n image is stands.
       let h = r.transcribed t n image (image_is ∙ is) stands in
-      let x : State = closed end (has_stop r.exchanges) (state_after (state_at t n h.first) h.run.entries) in
+      let x : State = closed end (has_stop r.exchanges) calls (state_after (state_at t n h.first h.calls) h.run.entries) in
       let s = h.run.reached.survives in
       record {
         first = h.first;
-        first_is = h.first_is;
+        calls = h.calls;
+        begun = begun_by image h.first h.calls h.begun;
         run = record {
           entries = h.run.entries;
           exchanges_are = h.run.exchanges_are;
           transcript = h.run.transcript;
           reached = record {
             told = h.run.reached.told;
+            later = h.run.reached.later;
+            calls = h.run.reached.calls;
             survives = record {
-              stopped = subst (λ k. Elapses before.calls k before.left now.left (IsAtPoint x.passed 0)) (sym calls)
-                  (by_name (IsAtPoint x.passed 0)
+              stopped = by_name (IsAtPoint x.passed 0)
                   (goes_on (IsAtPoint x.passed 0) (IsAtPoint x.passed 0) (within Nothing (IsAtPoint x.passed 0) time (λ c none. absurd none)) s.stopped (λ c p. p))
-                  named);
+                  named;
               opened = open_by (mid.calls + 1) (before.calls + 2) (omega (arith, calls_are)) r.exchanges x s.opened;
-              acked = subst (λ k. AllByRecursion (IsAcked x k now.left) acks) (sym calls)
-                  (acked_named x after.calls after.left now.left acks (λ k c left. (named k c).0 left) s.acked);
-              counts = s.counts;
+              acked = acked_named x calls since left acks (λ k c was. (named k c).0 was) s.acked;
+              acks_are = s.acks_are;
             };
             shown = λ none. subst (λ o. IfSome o (Shows x)) (sym shows) (h.run.reached.shown none);
           };
@@ -431,14 +512,19 @@ ran_attached end acks before mid after now script rest w1 w2 t1 t2 b m a image_i
       };
 }
   where
-    open_by : (k j : ℕ) → k ≡ j → (xs : List Exchange) (x : State) → ((c : Image) → after.left k c → IsAtPoint x.passed 0 c) ⊎ IsUnopened k xs mid after
-        → ((c : Image) → now.left j c → IsAtPoint x.passed 0 c) ⊎ IsUnopened j xs before now
-    open_by k j same xs x (inl f) = inl (λ c left. f c ((named k c).0 (subst (λ i. now.left i c) (sym same) left)))
+    begun_by : (i : Image) (first : View) (k : ℕ) → HasBegun (mid.calls + 1) i first k ⊎ HasNotStarted end r.exchanges i
+        → HasBegun (before.calls + 2) i first k ⊎ HasNotStarted end r.exchanges i
+    begun_by i first k (inl h) = inl (record { view = h.view; opened = omega (arith, h.opened, calls_are) })
+    begun_by i first k (inr unstarted) = inr unstarted
+
+    open_by : (k j : ℕ) → k ≡ j → (xs : List Exchange) (x : State) → ((c : Image) → since k c → IsAtPoint x.passed 0 c) ⊎ IsUnopened k xs mid (disk known calls since writes)
+        → ((c : Image) → left j c → IsAtPoint x.passed 0 c) ⊎ IsUnopened j xs before (disk shown calls left writes)
+    open_by k j same xs x (inl f) = inl (λ c was. f c ((named k c).0 (subst (λ i. left i c) (sym same) was)))
     open_by k j same xs x (inr h) = inr (record { none = h.none; why = why h.why })
       where
-        why : IsUnmade k mid after → IsUnmade j before now
-        why (inl few) = inl (omega (arith, few, calls, same))
-        why (inr (few, rose)) = inr (omega (arith, few, calls, same), subst (λ i. Rose before.write_faults i) (sym faults) (subst (λ i. Rose i after.write_faults) faults_are rose))
+        why : IsUnmade k mid (disk known calls since writes) → IsUnmade j before (disk shown calls left writes)
+        why (inl few) = inl (omega (arith, few, same))
+        why (inr (few, rose)) = inr (omega (arith, few, same), subst (λ i. Rose i writes) faults_are rose)
 
 -- an attach that failed
 pub ran_detached : (before now : Disk) (script w : Option (List ℕ)) (takes : Option Takes) (b a : Faults) → now.calls ≡ next_count before.calls
@@ -500,9 +586,9 @@ undamaged : (settled block : ℕ) (acks : List Ack) (before now : Ends) → Ran 
 undamaged settled block acks before now r h = at before.disk.image refl h
   where
     never : (u : State) (xs : List Exchange) (taken : List ℕ) (script : Option (List ℕ)) (i : Image)
-        → IsTold (Some (Damaged block)) xs taken script u ⊎ IsWornAtStart (Some (Damaged block)) xs i → ⊥
+        → IsTold (Some (Damaged block)) xs taken script u ⊎ HasNotStarted (Some (Damaged block)) xs i → ⊥
     never u xs taken script i (inl told) = told.told
-    never u xs taken script i (inr worn) = let is : ◌≡◌ {A = Option Fault} (Some (Damaged block)) (Some (Worn worn.which)) = worn.end_is in cc
+    never u xs taken script i (inr unstarted) = unstarted.why
 
     at : (o : Option Image) → before.disk.image ≡ o → IsSomeAnd o HasStart → ⊥
     at None is k = k

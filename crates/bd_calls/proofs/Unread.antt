@@ -1,5 +1,5 @@
 -- A call whose words aren't read, and words that are no call.
-use Rattle.std.proofs.Common.{◌≡◌, ◌⊎◌, ◌≢◌, ℕ, ◌+◌, ◌<◌, ◌≤◌, List, [], refl, sym, subst, ◌∙◌, arith, inl, inr, true≢false, Option, None, Some, Result, Ok, Err}
+use Rattle.std.proofs.Common.{◌≡◌, ◌⊎◌, ◌≢◌, ℕ, ◌+◌, List, [], refl, sym, subst, ◌∙◌, arith, inl, inr, true≢false, Option, None, Some, Result, Ok, Err}
 use Rattle.std.specs.Prelude.{IfSome, IsNone}
 use Rattle.bd_io.specs.Takes.{Takes}
 use Rattle.bd_device.specs.Blocks.{Image}

@@ -11,6 +11,7 @@ use Rattle.bd_image.specs.ImageTree.{ImageStandsFor}
 use Rattle.bd_checkpoint.specs.Kept.{AllStandFor}
 use Rattle.bd_shell.specs.declared.fault.Fault.{Fault}
 use Rattle.bd_shell.specs.declared.fault.Fault.TheVariants.{Device, Damaged, Source, Memory, TooLong, Worn, Sink}
+use Rattle.bd_shell.specs.declared.outcome.Ack.{Ack}
 use Rattle.bd_shell.specs.Transcript.{Known}
 
 -- what is written once an image is made
@@ -33,6 +34,12 @@ SaysDone (Some Sink) old new =
 -- the image was made at this end
 abbrev pub IsMadeAt : Option Fault → Type 0
 IsMadeAt end = (end ≡ None) ⊎ (end ≡ Some Sink)
+
+-- a format that ends well is acknowledged once, by the device's calls at its end and as of no
+-- commands; at a fault nothing is acknowledged
+abbrev pub format_acks : Option Fault → ℕ → List Ack
+format_acks None calls = record { calls = calls; count = 0 } ∷ []
+format_acks (Some e) calls = []
 
 -- what reads of a device give, and each image that a crash now may leave of it, stands for the tree
 -- of `/` alone and for no commands

@@ -8,7 +8,6 @@ use Rattle.bd_limits.specs.Limits.{script_limit}
 use Rattle.bd_io.specs.Cause.{Rose, next_count}
 use Rattle.bd_io.specs.Takes.{Takes}
 use Rattle.bd_io.specs.Written.{WrotePart}
-use Rattle.bd_message.specs.declared.fault.Counter.{Counter}
 use Rattle.bd_model.specs.Tree.{Tree}
 use Rattle.bd_device.specs.Blocks.{Image}
 use Rattle.bd_device.specs.Moments.{Elapses}
@@ -28,10 +27,10 @@ use Rattle.bd_shell.specs.declared.fault.Fault.{Fault}
 use Rattle.bd_shell.specs.declared.fault.Fault.TheVariants.{Device, Damaged, Source, Memory, TooLong, Worn, Sink}
 use Rattle.bd_shell.specs.declared.outcome.Ack.{Ack}
 use Rattle.bd_shell.specs.Fault.{status_of, fault_line, Faults, faults, Caused}
-use Rattle.bd_calls.specs.Format.{SaysDone, HasNewImage}
-use Rattle.bd_shell.specs.Transcript.{Known, State, state_at, Exchange, IsAnswered, HasTranscript, executed, lines_to_run}
-use Rattle.bd_shell.specs.Session.{Among, BeginsWith, TakenAt, Replied, Tells, has_stop, closed}
-use Rattle.bd_shell.specs.Crashes.{IsAtPoint, IsAcked, counts_of_acks}
+use Rattle.bd_calls.specs.Format.{SaysDone, format_acks, HasNewImage}
+use Rattle.bd_shell.specs.Transcript.{Known, State, state_at, Exchange, IsAnswered, HasTranscript, durable, executed, lines_to_run}
+use Rattle.bd_shell.specs.Session.{Among, BeginsWith, ReadOut, TakenAt, Replied, Tells, acks_at_end, has_stop, closed}
+use Rattle.bd_shell.specs.Crashes.{IsAtPoint, IsAcked}
 use Rattle.bd_shell.specs.Taken.{Took}
 use Rattle.bd_calls.specs.Fill.{CanEndLines, TellsSummary, said_in}
 
@@ -116,12 +115,22 @@ pub record IsTold (end : Option Fault) (xs : List Exchange) (taken : List ℕ) (
   pub told : Tells end s (executed xs) (lines_to_run taken)
   pub told_script : IfSome script (λ bytes. Tells end s (executed xs) (lines_to_run bytes))
 
--- nothing was executed: a counter has no room for what the image's log asks for
-pub record IsWornAtStart (end : Option Fault) (xs : List Exchange) (image : Image) : Type 0 where
-  pub which : Counter
-  pub end_is : end ≡ Some (Worn which)
+-- what keeps a volume from starting from an image that stands for a tree: the device, want of
+-- memory, or a counter that has no room for a command of the image's log
+abbrev pub KeepsFromStarting : Option Fault → Image → Type 0
+KeepsFromStarting None image = ⊥
+KeepsFromStarting (Some Device) image = ⊤
+KeepsFromStarting (Some (Damaged block)) image = ⊥
+KeepsFromStarting (Some Source) image = ⊥
+KeepsFromStarting (Some Memory) image = ⊤
+KeepsFromStarting (Some TooLong) image = ⊥
+KeepsFromStarting (Some (Worn which)) image = WearsReplaying which image
+KeepsFromStarting (Some Sink) image = ⊥
+
+-- nothing was executed, since the volume didn't start
+pub record HasNotStarted (end : Option Fault) (xs : List Exchange) (image : Image) : Type 0 where
   pub none : xs ≡ []
-  pub worn : WearsReplaying which image
+  pub why : KeepsFromStarting end image
 
 -- nothing was executed, since the volume's barrier, which returns after so many calls, wasn't made,
 -- or it failed
@@ -131,15 +140,31 @@ pub record IsUnopened (settled : ℕ) (xs : List Exchange) (before now : Disk) :
       ⊎ ((now.calls ≤ settled) × Rose before.write_faults now.write_faults)
 
 -- what a crash leaves of a run that ends in this state: inside it, and since the barrier with which
--- its volume starts, a point that was passed; each acknowledgement holds, of each line that made
--- all durable, in order
+-- its volume starts, a point that was passed; each acknowledgement holds, and they are the state's
 pub record Survives (settled : ℕ) (xs : List Exchange) (acks : List Ack) (before now : Disk)
     (s : State) : Type 0 where
   pub stopped : Elapses before.calls now.calls before.left now.left (IsAtPoint s.passed 0)
   pub opened : ((c : Image) → now.left settled c → IsAtPoint s.passed 0 c)
       ⊎ IsUnopened settled xs before now
   pub acked : AllByRecursion (IsAcked s now.calls now.left) acks
-  pub counts : counts_of_acks acks ≡ s.synced
+  pub acks_are : acks ≡ s.acks
+
+-- the device's calls at an end, beside those of the last state: more of them may only be of a line
+-- that failed
+abbrev pub CallsAtEnd : Option Fault → ℕ → ℕ → Type 0
+CallsAtEnd None state now = now ≡ state
+CallsAtEnd (Some Device) state now = state ≤ now
+CallsAtEnd (Some (Damaged block)) state now = state ≤ now
+CallsAtEnd (Some Source) state now = now ≡ state
+CallsAtEnd (Some Memory) state now = state ≤ now
+CallsAtEnd (Some TooLong) state now = now ≡ state
+CallsAtEnd (Some (Worn which)) state now = state ≤ now
+CallsAtEnd (Some Sink) state now = now ≡ state
+
+-- the calls of acknowledgements don't fall, from so many to so many
+abbrev pub AreInOrder : ℕ → ℕ → List Ack → Type 0
+AreInOrder least now [] = least ≤ now
+AreInOrder least now (a ∷ acks) = (least ≤ a.calls) × AreInOrder a.calls now acks
 
 -- the image stands for the state's tree and count, and has just the nodes saved that its view has
 pub record Shows (s : State) (image : Image) : Type 0 where
@@ -160,27 +185,37 @@ NamesDamage (Some (Worn which)) xs before now = ⊤
 NamesDamage (Some Sink) xs before now = ⊤
 
 -- what is told of the state after the last line, and of that once all is made durable, where no
--- fault came; what is shown then stands for it
+-- fault came; what is shown then stands for it, and the device's calls are its own
 pub record IsLast (settled : ℕ) (end : Option Fault) (xs : List Exchange) (taken : List ℕ)
     (script : Known) (acks : List Ack) (image : Image) (before now : Disk) (s : State)
     : Type 0 where
-  pub told : IsTold end xs taken script s ⊎ IsWornAtStart end xs image
-  pub survives : Survives settled xs acks before now (closed end (has_stop xs) s)
-  pub shown : end ≡ None → IfSome now.image (Shows (closed end (has_stop xs) s))
+  pub told : IsTold end xs taken script s ⊎ HasNotStarted end xs image
+  pub later : s.calls ≤ now.calls
+  pub calls : CallsAtEnd end (closed end (has_stop xs) now.calls s).calls now.calls
+  pub survives : Survives settled xs acks before now (closed end (has_stop xs) now.calls s)
+  pub shown : end ≡ None → IfSome now.image (Shows (closed end (has_stop xs) now.calls s))
+
+-- the volume started with the image's first view, after so many calls of the device, among them the
+-- barrier that returns after `settled`
+pub record HasBegun (settled : ℕ) (image : Image) (first : View) (calls : ℕ) : Type 0 where
+  pub view : IsFirstView image first
+  pub opened : settled ≤ calls
 
 -- from an image that stands for a tree the lines with their replies are those of one transcript,
--- which begins at the image's first view; without one nothing was executed
+-- which begins where the volume started, unless it didn't
 pub record Transcribed (settled : ℕ) (t : Tree) (n : ℕ) (image : Image) (end : Option Fault)
     (xs : List Exchange) (taken : List ℕ) (script : Known) (acks : List Ack) (before now : Disk)
     : Type 0 where
   pub first : View
-  pub first_is : IsFirstView image first ⊎ ((xs ≡ []) × IsSome end)
-  pub run : HasTranscript (state_at t n first) xs
+  pub calls : ℕ
+  pub begun : HasBegun settled image first calls ⊎ HasNotStarted end xs image
+  pub run : HasTranscript (state_at t n first calls) xs
       (IsLast settled end xs taken script acks image before now)
 
 -- the lines that a run executed, each with its reply, to which script, takes and what was written
--- are tied; damage names a bad block; where the image stands for a tree, these lines have their
--- transcript. The barrier with which the volume starts returns after so many calls
+-- are tied, and how many acknowledgements there are; a script is read to its end where a run ends
+-- well without a `stop`; damage names a bad block; where the image stands for a tree, these lines
+-- have their transcript. The barrier with which the volume starts returns after so many calls
 pub record Ran (settled : ℕ) (end : Option Fault) (acks : List Ack) (before now : Ends)
     : Type 0 where
   pub exchanges : List Exchange
@@ -195,6 +230,9 @@ pub record Ran (settled : ℕ) (end : Option Fault) (acks : List Ack) (before no
   pub among_taken : Among end taken exchanges
   pub among_script : IfSome before.script (λ bytes. Among end bytes exchanges)
   pub taken_at : TakenAt end taken exchanges
+  pub read_out : ReadOut end exchanges final now.script
+  pub acked : length acks
+      ≡ durable (executed exchanges) + acks_at_end end (has_stop exchanges)
   pub replied : Replied end front taken exchanges before.written now.written
   pub damage : NamesDamage end exchanges before.disk.image now.disk.image
   pub transcribed : (t : Tree) (n : ℕ) (image : Image) → before.disk.image ≡ Some image
@@ -213,8 +251,8 @@ pub record Went (status : ℕ) (acks : List Ack) (before now : Ends) : Type 0 wh
   pub cause : IfSome end (λ e. Caused e before.faults ended)
   pub last : WritesEnd end replies now.written ended now.faults
 
--- how making an image went: what ended it, to which its status, its reply and its last line are
--- tied; the source stays as it was
+-- how making an image went: what ended it, to which its status, its reply, what was acknowledged and
+-- its last line are tied; the source stays as it was
 pub record Formatted (status : ℕ) (acks : List Ack) (before now : Ends) : Type 0 where
   pub end : Option Fault
   pub status_is : status ≡ end_status end
@@ -225,7 +263,7 @@ pub record Formatted (status : ℕ) (acks : List Ack) (before now : Ends) : Type
   pub said : SaysDone end before.written replies
   pub cause : IfSome end (λ e. Caused e before.faults ended)
   pub last : WritesEnd end replies now.written ended now.faults
-  pub acked : acks ≡ []
+  pub acked : acks ≡ format_acks end now.disk.calls
 
 -- what is told of a disk, over a script and a sink that no one else has
 abbrev pub apart : Disk → Known → Known → Ends

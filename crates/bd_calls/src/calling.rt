@@ -217,7 +217,8 @@ fn end_unread<K: Sink>(alloc: Global, sink: &mut K) -> Outcome
 ///
 /// At each `sync`, at `stop` and at the end of the script all accepted commands are made durable
 /// and acknowledged; at a fault they aren't. Stopped at any moment, the image stands for the tree
-/// after a front of the accepted commands, one that holds all that was acknowledged.
+/// after a front of the accepted commands, one that holds all that was acknowledged. A format that
+/// ends well is acknowledged once, as of no commands; at a fault it isn't.
 pub fn run<D: Attach, S: Source, K: Sink>(
     alloc: Global,
     words: &[String],
@@ -296,9 +297,8 @@ pub fn run<D: Attach, S: Source, K: Sink>(
             end_call(sink, ended)
         }
         Ok(Call::Format { image, slots }) => {
-            let result = format_image(alloc, image, slots, dev, sink);
-            let acks = Items::new(alloc);
-            end_call(sink, Ended { result, acks })
+            let made = format_image(alloc, image, slots, dev, sink);
+            end_call(sink, made)
         }
         Ok(Call::Fill { image, seed, count }) => {
             let filled = fill_image(alloc, image, seed, count, dev);

@@ -10,7 +10,7 @@ use Rattle.bd_words.specs.Words.{Run, Format, Fill}
 use Rattle.bd_shell.proofs.Moving.{is_caused_beside}
 use Rattle.bd_calls.proofs.Runs.{of_call, ended_well, ok_of_none, well_counts, run_complete, cause_of}
 use Rattle.bd_calls.proofs.Fills.{fill_complete, fill_device, fill_short, told_done, told_well}
-use Rattle.bd_calls.proofs.Unread.{complete_unread, does_unread, for_some, makes_unread, never_refused, none_is, of_none, some_call, uses_unread}
+use Rattle.bd_calls.proofs.Unread.{complete_unread, does_unread, for_some, makes_unread, never_refused, none_is, of_none, uses_unread}
 use Rattle.bd_calls.proofs.calling.run.Goals as goal
 
 pub returns-in-Ok-Run-clause-faultless : goal.returns-in-Ok-Run-clause-faultless
@@ -27,28 +27,30 @@ returns-in-Ok-Run-clause-complete g c =
 
 pub returns-in-Ok-Format-clause-does : goal.returns-in-Ok-Format-clause-does
 returns-in-Ok-Format-clause-does g c =
-    let made = c.format_image-result in
+    let made = c.format_image-made in
+    let r = made.result.result in
     let call = c.in-Ok-Format in
     of_call _ _ (Format call.image.now call.slots) (ap (λ f. Some (asked f)) (sym call.field-0-is) ∙ sym call.ensures.call)
     (record {
-      end = end_of made.result;
+      end = end_of r;
       status_is = c.end_call-in-Ok-Format.ensures.status;
       replies = g.K.Sink.written made.new.sink;
       ended = faults (g.D.Device.fault_count made.new.dev) (g.S.Source.fault_count c.args.src.now) (g.K.Sink.fault_count made.new.sink);
       script_stays = refl;
       takes_stay = refl;
       said = made.ensures.said;
-      cause = cause_of made.result _ _ (is_caused_beside made.result _ _ _ _ (g.S.Source.fault_count c.args.src.now) made.ensures.cause);
+      cause = cause_of r _ _ (is_caused_beside r _ _ _ _ (g.S.Source.fault_count c.args.src.now) made.ensures.cause);
       last = c.end_call-in-Ok-Format.ensures.last _ _;
-      acked = c.end_call-in-Ok-Format.ensures.acks ∙ c.new-acks.ensures;
+      acked = c.end_call-in-Ok-Format.ensures.acks ∙ made.ensures.acks;
     })
 
 pub returns-in-Ok-Format-clause-faultless : goal.returns-in-Ok-Format-clause-faultless
 returns-in-Ok-Format-clause-faultless g c =
-    let made = c.format_image-result in
+    let made = c.format_image-made in
+    let r = made.result.result in
     let last = c.end_call-in-Ok-Format.ensures.last (g.D.Device.fault_count made.new.dev) (g.S.Source.fault_count c.args.src.now) in
-    ended_well made.result _ _ c.end_call-in-Ok-Format.ensures.status
-    (well_counts made.result _ _ _ _ _ (is_caused_beside made.result _ _ _ _ (g.S.Source.fault_count c.args.src.now) made.ensures.cause) last)
+    ended_well r _ _ c.end_call-in-Ok-Format.ensures.status
+    (well_counts r _ _ _ _ _ (is_caused_beside r _ _ _ _ (g.S.Source.fault_count c.args.src.now) made.ensures.cause) last)
 
 pub returns-in-Ok-Fill-clause-does : goal.returns-in-Ok-Fill-clause-does
 returns-in-Ok-Fill-clause-does g c =

@@ -40,7 +40,7 @@ returns-in-Ok-clause-ran g c =
     (faults (g.D.Device.fault_count e) (g.S.Source.fault_count ran.new.src) (g.K.Sink.fault_count ran.new.sink))))
     _ (device_in after).now (search rules)
     (λ may_stay. ran_session _ (end_of ran.result) _ before after _ _ _ _ _ _ _ _ (ran.ensures.session (device_in before) (g.D.Device.call_count c.args.dev.now + 1))
-    c.in-Ok.ensures.stands c.in-Ok.ensures.first c.in-Ok.ensures.only (λ none. ok_of_none ran.result _ none ran.ensures.going) c.saved_is_shown.ensures may_stay
+    c.in-Ok.ensures.acks c.in-Ok.ensures.stands c.in-Ok.ensures.first c.in-Ok.ensures.only (λ none. ok_of_none ran.result _ none ran.ensures.going) c.saved_is_shown.ensures may_stay
     c.blocks-2.ensures.shape (ran.ensures.device.count ∙ c.in-Ok.ensures.only.stays.count) (names_damage ran.result _ _ ran.ensures.damage))
     c.blocks-in-Ok.ensures.may_stay)
 
