@@ -1,9 +1,5 @@
 """Clones, a full image and long paths: after each line each path reads as the plain map has it."""
-import re
-
-from script import Lines, Plain, compare, questions
-
-FULL = re.compile(r"full (\d+) (\d+)")
+from script import FULL, Lines, Plain, compare, given, is_full, questions
 
 
 def reads(length):
@@ -85,21 +81,21 @@ ASKED = questions(["/", "/d", "/g", "/h", "/d/f"], reads(4_096)) + [f"read /d/f 
 
 def full(rows, report):
     """A file is written until too few slots are free; what was written is read, and its slots are reclaimed."""
-    begun = ["# a full image", "-- run"]
+    begun = "# a full image\n-- run\n"
     filling = BEFORE + pieces("/d/f", 1_000)
-    written = rows.show("\n".join(begun + ["> " + line for line in filling]) + "\n")[-1].written
+    written = rows.show(begun + given(filling))[-1].written
     count = next((at for at, reply in enumerate(written) if FULL.fullmatch(reply)), None)
     report(count is not None and count > 100, f"a full image: full after {count} lines")
     if count is None:
         return
-    free, need = map(int, FULL.fullmatch(written[count]).groups())
-    report(free < need <= 24, f"a full image: {written[count]}")
+    need = int(FULL.fullmatch(written[count])[2])
+    report(is_full(written[count]) and need <= 24, f"a full image: {written[count]}")
     lines = filling[:count] + ASKED + RECLAIMED + ASKED
     plain = Plain()
     replies = [plain.reply(line) for line in lines]
     replies.insert(count, written[count])
     lines.insert(count, filling[count])
-    found = rows.show("\n".join(begun + ["> " + line for line in lines]) + "\n")[-1]
+    found = rows.show(begun + given(lines))[-1]
     differing = [line for line, reply, want in zip(lines, found.written, replies) if reply != want]
     report(found.status == 0 and found.written == replies, f"a full image: {differing[:3]}")
 

@@ -5,7 +5,7 @@ Slow programs are given some of these images.
 """
 import re
 
-from fields import changes, fields_of
+from fields import FIRST_SLOT, SLOT_BLOCKS, Damaged, changed, changes, fields_of, nodes_of, slot_block, start_of
 from rich import RICH, SLOTS, image_of, set_blocks
 from script import compare, shown
 
@@ -35,12 +35,14 @@ WORN = re.compile(r"fault worn (level|id|refs|flushes|count|epoch)")
 
 
 class Image:
-    """An image of which one number is another one, the lines that wait, and what was found."""
+    """An image of which one number is another one, the lines that wait, and what was found: the replies, the first
+    damage, and which line found it."""
 
     def __init__(self, field, value):
         self.field, self.value = field, value
         self.runs, self.left, self.silent = [], list(LINES), 0
         self.replies, self.damage, self.wrong = [], None, None
+        self.line = 0
 
     def label(self):
         return f"{self.field} is {self.value}"
@@ -64,29 +66,42 @@ class Image:
         done = len(written) + (fault is not None)
         if fault is None and done < len(self.left):
             self.wrong = f"{done} of {len(self.left)} lines have replies"
+        self.fault(fault, call.status, len(LINES) - len(self.left) + len(written))
         self.replies += written
         self.runs.append(self.left[:done])
-        self.fault(fault, call.status)
         self.silent = 0 if written else self.silent + 1
         self.left = self.left[done:] if self.silent < SILENT else []
 
-    def fault(self, fault, status):
+    def fault(self, fault, status, line):
         if fault is None:
             return
         damaged, worn = DAMAGED.fullmatch(fault), WORN.fullmatch(fault)
         if damaged and status == 4:
             if self.damage is None:
-                self.damage = int(damaged[1])
+                self.damage, self.line = int(damaged[1]), line
         elif not worn or status != 8:
             self.wrong = f"{fault!r}, status {status}"
 
-    def is_named(self, table, batch):
+    def is_named(self, data, table, batch):
         """Whether the damage is of the number's part. A node's may be the table's, which says what nodes there are,
         or the batch's, since the tree that is left may refuse a record."""
         part, block = self.field.part, self.field.block
-        if self.damage is None or part in ("superblock", "table"):
-            return True
-        return self.damage == block or (part == "node" and self.damage in (table, batch))
+        if part in ("superblock", "table"):
+            return self.is_found(changed(data, self.field, self.value))
+        return self.damage in (None, block) or (part == "node" and self.damage in (table, batch))
+
+    def is_found(self, image):
+        """Whether the damage is what the rules find: at each start that of the superblocks and of the table, and where
+        these are whole that of a node's slot, of the table, whose nodes don't fit together, or of the batch. After a
+        checkpoint nodes and table stand in other slots."""
+        try:
+            start = start_of(image)
+            nodes = nodes_of(image, start)
+        except Damaged as damaged:
+            return (self.damage, self.replies) == (damaged.block, [])
+        if self.line > LINES.index("checkpoint"):
+            return self.damage >= FIRST_SLOT and (self.damage - FIRST_SLOT) % SLOT_BLOCKS == 0
+        return self.damage in (None, start.batch(), slot_block(start.table[0]), *nodes)
 
 
 def values_of(field):
@@ -109,7 +124,7 @@ def damaged_numbers(rows, report):
     whole = [plain.reply(line) for line in LINES]
     for image in images:
         is_same = image.value != image.field.value or image.replies == whole
-        is_right = image.wrong is None and image.is_named(table, batch) and is_same
+        is_right = image.wrong is None and image.is_named(data, table, batch) and is_same
         report(is_right, f"{image.label()}: {image.wrong or image.damage or image.replies}")
     if rows.is_slow:
         return

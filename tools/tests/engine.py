@@ -1,7 +1,8 @@
 """Formats and checkpoints, through the whole program: an image's first bytes, checkpoints in turn, and what they leave
 where they are stopped at each call of the device, or at some of them where the programs are slow."""
 from plain import PlainMap
-from volume import TEARS, calls_before, cut, reply_of, script, told
+from script import TEARS, compare
+from volume import calls_before, cut, reply_of, script
 
 BLOCK, SLOTS, BLOCKS = 4096, 24, 516
 FIRST_LOG_BLOCK = 4
@@ -37,7 +38,7 @@ def fresh_images(rows, report):
         for block in blocks:
             begun = BEGUN.get(block, "00" if block in ZEROS else None)
             text.append(f"-- begins {block} {begun}" if begun else f"-- bytes {block} 0 {full}")
-        told(rows, report, "\n".join(text) + "\n")
+        compare(rows, "\n".join(text) + "\n", report)
 
 
 def ten_checkpoints(rows, report):
@@ -53,7 +54,7 @@ def ten_checkpoints(rows, report):
             text += f"-- begins {body - 1} 01\n-- bytes {body} 16 {number(of_body)}{number(of_body - 1)}"
             text += f"{number(1, 4)}{number(slot, 4)}{number(0, 4)}\n"
         text += "".join(f"-- begins {block} 00\n" for block in range(132 + 16 * 4, BLOCKS))
-    told(rows, report, text)
+    compare(rows, text, report)
 
 
 # Commands of each kind.
@@ -78,7 +79,7 @@ def opened_again(rows, report):
         text += f"{alike(tree, LINES + PIECES)}> checkpoint\nok\n"
         if slots == 64:
             text += f"-- begins 2 01\n-- bytes 1 16 {number(1)}\n-- bytes 3 16 {number(2)}{number(70)}\n"
-        told(rows, report, text + f"-- again\n-- acks 70\n{alike(tree, ASKED)}")
+        compare(rows, f"{text}-- again\n-- acks 70\n{alike(tree, ASKED)}", report)
 
 
 def large_file(rows, report):

@@ -4,11 +4,12 @@ After each the image is read again: it has the tree after as many commands as it
 those among them that a sync, a checkpoint or a reclaiming kept. Slow programs are stopped at some of these calls.
 """
 from rich import RICH, SLOTS
-from script import KEEPING, Lines, questions, shown
-
-TEARS = ("old", "new", "0", "1", "255")
+from script import KEEPING, TEARS, Lines, questions, shown
 
 FAULT = "fault device"
+
+# What acknowledges all commands that were accepted before it.
+ACKNOWLEDGING = ("sync", "stop")
 
 # A script of each step of the log and of checkpoints.
 SHORT = Lines([
@@ -105,10 +106,17 @@ class Script:
     def ask(self):
         return ["-- run"] + [f"> {line}" for line in self.asked]
 
+    def acks(self, done):
+        """What is acknowledged once so many of the lines were answered."""
+        return [count for line, count in zip(self.lines.lines[:done], self.counts) if line in ACKNOWLEDGING]
+
     def calls(self, rows):
-        """How many calls of the device the lines make where none fails, or None where they aren't answered rightly."""
+        """How many calls of the device the lines make where none fails, or None where they aren't answered or
+        acknowledged rightly: the end of a script without `stop` acknowledges too."""
         last = rows.show("\n".join(self.begun() + self.run()) + "\n")[-1]
-        return last.calls if last.status == 0 and last.written == self.lines.replies else None
+        acks = self.acks(len(self.counts)) + ([] if self.lines.lines[-1] == "stop" else self.counts[-1:])
+        is_right = last.status == 0 and last.written == self.lines.replies and last.acks == acks
+        return last.calls if is_right else None
 
     def wrong(self, stopped, asked, call):
         """What is wrong with a run that was stopped at this call of the device, after which it makes none, and with the
@@ -120,6 +128,8 @@ class Script:
             return f"status {stopped.status}, {stopped.written[-1:]}"
         if replies != self.lines.replies[: len(replies)]:
             return f"replies {replies}"
+        if stopped.acks != self.acks(len(replies)):
+            return f"acks {stopped.acks}"
         kept, accepted = self.first, self.first
         for line, count in zip(self.lines.lines[: len(replies)], self.counts):
             accepted = count

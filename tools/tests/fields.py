@@ -1,9 +1,10 @@
-"""Where each number of an image stands, read by the rules of docs/FORMAT.md alone."""
+"""Where each number of an image stands, and what an image starts from, read by the rules of docs/FORMAT.md alone."""
 from typing import NamedTuple
 
 BLOCK, SLOT_BLOCKS, FIRST_SLOT = 4_096, 16, 132
 KEY, VALUE, PATH, PIECE = 518, 1_024, 512, 2_048
 GREATEST_FILE, LEVELS, IDS = 1 << 30, 1_000, 65_536
+LEAST_SLOTS, MOST_SLOTS, MOST_TABLE_SLOTS = 24, 65_536, 25
 
 
 class Field(NamedTuple):
@@ -142,6 +143,87 @@ def fields_of(image):
     batch = 5 if live == 1 else 69
     Reader(image, "batch", batch, fields).batch()
     return fields, slot_block(table), batch
+
+
+class Damaged(Exception):
+    """An image starts from nothing, since a block is damaged."""
+
+    def __init__(self, block):
+        super().__init__(block)
+        self.block = block
+
+
+class Start(NamedTuple):
+    """What an image starts from: the live superblock's epoch, the block of its body, the slots of the image and those
+    of its table."""
+
+    epoch: int
+    body: int
+    slots: int
+    table: list
+
+    def batch(self):
+        """The first block of the log's first batch."""
+        return 5 if self.body == 1 else 69
+
+
+def number_in(data, place, width):
+    return int.from_bytes(data[place : place + width], "big")
+
+
+def superblock_in(image, body):
+    """The superblock whose body this block has, or None."""
+    data = image[body * BLOCK : (body + 1) * BLOCK]
+    slots, epoch, count = number_in(data, 12, 4), number_in(data, 16, 8), number_in(data, 32, 4)
+    if not 1 <= count <= MOST_TABLE_SLOTS:
+        return None
+    end = 36 + 4 * count
+    table = [number_in(data, place, 4) for place in range(36, end, 4)]
+    is_one = data[:8] == b"BDSUPER1" and number_in(data, 8, 4) in (1, 2) and not any(data[end:])
+    is_of_size = LEAST_SLOTS <= slots <= MOST_SLOTS and len(image) == slot_block(slots) * BLOCK
+    is_right = epoch >= 1 and len(set(table)) == count and max(table) < slots
+    return Start(epoch, body, slots, table) if is_one and is_of_size and is_right else None
+
+
+def start_of(image):
+    """What an image starts from, where its superblocks are whole."""
+    committed = [body for body in (1, 3) if image[(body - 1) * BLOCK : (body - 1) * BLOCK + 1] == b"\1"]
+    if len(image) < slot_block(LEAST_SLOTS) * BLOCK or not committed:
+        raise Damaged(0)
+    found = [superblock_in(image, body) for body in committed]
+    for body, superblock in zip(committed, found):
+        if superblock is None:
+            raise Damaged(body)
+    if len({superblock.epoch for superblock in found}) < len(found):
+        raise Damaged(3)
+    return max(found)
+
+
+def nodes_of(image, start):
+    """The first blocks of the nodes' slots, by the table from which an image starts, where that is one."""
+    data = b"".join(image[slot_block(slot) * BLOCK : slot_block(slot + 1) * BLOCK] for slot in start.table)
+    count, next_id, root = (number_in(data, place, 8) for place in (8, 16, 24))
+    end = 32 + 24 * count
+    if data[:8] != b"BDTABLE1" or not 1 <= count <= IDS or -(-end // (SLOT_BLOCKS * BLOCK)) != len(start.table):
+        raise Damaged(slot_block(start.table[0]))
+    ids, references, slots, levels = (
+        [number_in(data, place, width) for place in range(32 + at, end, 24)]
+        for at, width in ((0, 8), (8, 8), (16, 4), (20, 4)))
+    are_ids = all(low < high for low, high in zip([0] + ids, ids + [next_id]))
+    are_placed = max(slots) < start.slots and len({*slots, *start.table}) == count + len(start.table)
+    are_right = min(references) >= 1 and max(levels) <= LEVELS and not any(data[end:])
+    has_root = root in ids and levels[ids.index(root)] >= 1
+    if not (are_ids and are_placed and are_right and has_root):
+        raise Damaged(slot_block(start.table[0]))
+    return [slot_block(slot) for slot in slots]
+
+
+def changed(image, field, value):
+    """The image with another number there."""
+    other = bytearray(image)
+    for block, place, byte in changes(field, value):
+        other[block * BLOCK + place : block * BLOCK + place + 1] = byte
+    return bytes(other)
 
 
 def changes(field, value):

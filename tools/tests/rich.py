@@ -3,7 +3,7 @@ import subprocess
 import tempfile
 from pathlib import Path
 
-from script import BLOCK_SIZE, Lines
+from script import BLOCK_SIZE, Lines, new_image
 
 SLOTS = 48
 
@@ -20,11 +20,10 @@ RICH = Lines(
 def image_of(rows):
     """The bytes of the image, which the program makes."""
     with tempfile.TemporaryDirectory() as folder:
-        image = Path(folder) / "image"
-        subprocess.run([rows.betr, "format", image, str(SLOTS)], stdout=subprocess.DEVNULL, check=True)
+        image = new_image(rows, folder, "image", SLOTS)
         script = "".join(line + "\n" for line in RICH.expanded())
         subprocess.run([rows.betr, "run", image], input=script.encode(), stdout=subprocess.DEVNULL, check=True)
-        return image.read_bytes()
+        return Path(image).read_bytes()
 
 
 def set_blocks(data):

@@ -1,8 +1,10 @@
-"""Lines of scripts beside the plain map."""
+"""Lines of scripts beside the plain map, and what several sections ask of rows and images."""
 import copy
 import os
 import re
+import subprocess
 from concurrent.futures import ThreadPoolExecutor
+from pathlib import Path
 
 from plain import PlainMap
 
@@ -12,10 +14,34 @@ KEEPING = ("sync", "checkpoint", "reclaim", "stop")
 
 BRACES = re.compile(r"\{([0-9a-f]+)\*(\d+)\}")
 
+FULL = re.compile(r"full (\d+) (\d+)")
+
+# What a loss of power may leave of a block that was written since the last barrier: what it was, what was written, or
+# this byte in each place.
+TEARS = ("old", "new", "0", "1", "255")
+
 
 def expanded(line):
     """A line with what its braces stand for."""
     return BRACES.sub(lambda found: found[1] * int(found[2]), line)
+
+
+def given(lines):
+    """Rows of lines, without what they are answered."""
+    return "".join(f"> {line}\n" for line in lines)
+
+
+def is_full(reply):
+    """Whether a reply says that more slots are needed than are free."""
+    told = FULL.fullmatch(reply)
+    return bool(told) and int(told[1]) < int(told[2])
+
+
+def new_image(rows, folder, name, slots):
+    """The path of a new image of so many slots, in a folder."""
+    image = str(Path(folder) / name)
+    subprocess.run([rows.betr, "format", image, str(slots)], stdout=subprocess.DEVNULL, check=True)
+    return image
 
 
 class Plain:

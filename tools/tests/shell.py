@@ -11,6 +11,8 @@ import tempfile
 from pathlib import Path
 
 from plain import PlainMap
+from script import TEARS, Lines, given, is_full, new_image
+from session import GREATEST_SCRIPT
 
 # A file and its clone are written apart, and all is made durable.
 SCRIPT = [
@@ -20,25 +22,17 @@ SCRIPT = [
 ACCEPTED = 5
 SYNCED = 9
 QUESTIONS = ["stat /a", "read /a 0 9", "stat /b", "read /b 0 9"]
-TEARS = ["old", "new", "255"]
 TOOLS = Path(__file__).resolve().parent.parent
 
 
 def replies(lines, begun=()):
     """The replies of the plain map to lines, after others."""
-    tree = PlainMap()
-    for line in begun:
-        tree.reply(line.encode())
-    return ["ok" if line in ("sync", "checkpoint", "reclaim", "stop") else tree.reply(line.encode()).decode() for line in lines]
+    return Lines([*begun, *lines]).replies[len(begun):]
 
 
 REPLIES = replies(SCRIPT)
 CHANGES = [line for line in SCRIPT if line.split(" ")[0] in ("create", "write", "clone")]
 LEFT = [replies(QUESTIONS, CHANGES[:count]) for count in range(ACCEPTED + 1)]
-
-
-def given(lines):
-    return "".join(f"> {line}\n" for line in lines)
 
 
 def run_with(label, directives, tear):
@@ -65,7 +59,8 @@ def pairs(shown):
 def each_call(rows, calls, directives):
     """For each call of the device, the run with what `directives` gives for it, and the run after it. The ways of
     tearing take turns."""
-    texts = [run_with(f"call {call}", directives(call), TEARS[call % 3]) for call in rows.some(range(1, calls + 1), 13)]
+    texts = [run_with(f"call {call}", directives(call), TEARS[call % len(TEARS)])
+             for call in rows.some(range(1, calls + 1), 13)]
     return [(ran, then) for ran, then in rows.show_each(texts)]
 
 
@@ -81,7 +76,7 @@ def failing_device(rows, report):
     for ran, then in each_call(rows, whole.calls, lambda call: [f"fail {call}"]):
         is_right = ran.status == 3 and ran.faults == 1 and is_front(ran, then, ["fault device"], 0) and is_last(ran)
         report(is_right, f"failing device: {ran.label}: {ran.status} {ran.calls} {ran.written} {then.written}")
-    for ran, then in each_call(rows, whole.calls, lambda call: [f"fuse {call} {TEARS[call % 3]}"]):
+    for ran, then in each_call(rows, whole.calls, lambda call: [f"fuse {call} {TEARS[call % len(TEARS)]}"]):
         is_right = ran.status == 3 and is_front(ran, then, ["fault device"], 0) and is_last(ran)
         report(is_right, f"stopped device: {ran.label}: {ran.status} {ran.calls} {ran.written} {then.written}")
 
@@ -130,7 +125,7 @@ def stopped_run(rows, report):
     without the first one, which is there from the sync's acknowledgement on."""
     whole = rows.show(f"# no call fails\n{given(STOPPED)}")[0]
     report(whole.status == 0 and whole.acks == [1, 2] and whole.calls > 10, f"a run with a sync: {whole.calls} {whole.acks}")
-    texts = [f"# call {call}\n-- run\n-- fuse {call} {TEARS[call % 3]}\n{given(STOPPED)}-- again\n> list /\n"
+    texts = [f"# call {call}\n-- run\n-- fuse {call} {TEARS[call % len(TEARS)]}\n{given(STOPPED)}-- again\n> list /\n"
              for call in rows.some(range(1, whole.calls + 1), 7)]
     for ran, then in rows.show_each(texts):
         done = ran.written[:-1]
@@ -196,48 +191,54 @@ def worn_level(rows, report):
     report(all(reply == "ok" for reply in oks) and len(oks) >= 999, f"{len(oks)} clones")
 
 
-def long_script(rows, report):
-    """A script of more than 16,777,216 bytes is too long; its lines before have their replies. They are empty, or 63
-    bytes long where the program is slow."""
-    width = 64 if rows.is_slow else 1
-    line, count = b"y" * (width - 1) + b"\n", 16_777_216 // width
+BAD_LINE, TOO_LONG = b"no 10 bad-line\n", b"fault too-long\n"
+
+
+def outcome_of(rows, script):
+    """The status of a run of this script on a new image, and what it writes."""
     with tempfile.TemporaryDirectory() as folder:
-        image = str(Path(folder) / "image")
-        subprocess.run([rows.betr, "format", image, "24"], stdout=subprocess.DEVNULL, check=True)
-        run = subprocess.run([rows.betr, "run", image], input=line * count + b"\n", stdout=subprocess.PIPE, check=False)
-    report(run.returncode == 7, f"a long script: status {run.returncode}")
-    report(run.stdout == b"no 10 bad-line\n" * count + b"fault too-long\n", "what a long script is answered")
+        image = new_image(rows, folder, "image", 24)
+        run = subprocess.run([rows.betr, "run", image], input=script, stdout=subprocess.PIPE, check=False)
+    return run.returncode, run.stdout
+
+
+def long_scripts(rows, report):
+    """A script of more than 16,777,216 bytes is too long; its complete lines before have their replies, and what has no
+    newline is no line of it. Of a script that isn't too long the rest without a newline is its last line. The lines are
+    empty, or 63 bytes long where the program is slow."""
+    width = 64 if rows.is_slow else 1
+    line, count = b"y" * (width - 1) + b"\n", GREATEST_SCRIPT // width
+    for label, script, want in [
+        ("complete lines and a byte", line * count + b"\n", (7, BAD_LINE * count + TOO_LONG)),
+        ("complete lines", line * count, (0, BAD_LINE * count)),
+        ("one byte too many without a newline", b"y" * (GREATEST_SCRIPT + 1), (7, TOO_LONG)),
+        ("20,000,000 bytes without a newline", b"y" * 20_000_000, (7, TOO_LONG)),
+        ("as many bytes as may be, without a newline", b"y" * GREATEST_SCRIPT, (0, BAD_LINE)),
+    ]:
+        status, written = outcome_of(rows, script)
+        report((status, written) == want, f"a long script of {label}: status {status}, {written[-60:]}")
 
 
 FILLED = re.compile(r"fill (\d+) ok (\d+) no (\d+) full (\d+)\n")
+KINDS = ["ok", "no", "full"]
+
+# Fills of seed 1 of which each line has room: how many lines are drawn, the slots of the image, and what is told. There
+# are eight lines more, and the kinds of their replies are those of the plain map.
+ROOMY_FILLS = [(500, 512, [508, 216, 292, 0]), (5000, 4096, [5008, 2691, 2317, 0])]
 
 
-def filled(rows, folder, name, count):
-    """What a fill of seed 1 tells on a new image of 512 slots: how many lines it executed, and their replies by kind."""
-    image = str(Path(folder) / name)
-    subprocess.run([rows.betr, "format", image, "512"], stdout=subprocess.DEVNULL, check=True)
+def filled(rows, folder, name, slots, count):
+    """What a fill of seed 1 tells on a new image: how many lines it executed, and their replies by kind."""
+    image = new_image(rows, folder, name, slots)
     run = subprocess.run([rows.betr, "fill", image, "1", str(count)], stdout=subprocess.PIPE, text=True, check=False)
     told = FILLED.fullmatch(run.stdout)
     return [int(number) for number in told.groups()] if told and run.returncode == 0 else []
 
 
-def kinds_of(tree, lines, answers):
-    """How many of these answers are `ok`, `no` and `full`, or nothing where one isn't right beside the plain map: a
-    line that is full is one that the map would accept, and the map stays."""
-    counts = [0, 0, 0]
-    for line, answer in zip(lines, answers, strict=True):
-        kind = ["ok", "no", "full"].index(answer.split(" ")[0])
-        if kind < 2 and tree.reply(line.encode()).decode() != answer:
-            return []
-        if kind == 2 and not (is_full(answer) and tree.would_accept(line)):
-            return []
-        counts[kind] += 1
-    return counts
-
-
-def is_full(answer):
-    told = re.fullmatch(r"full (\d+) (\d+)", answer)
-    return bool(told) and int(told[1]) < int(told[2])
+def kinds_of(answers):
+    """How many answers there are, and how many of each kind."""
+    words = [answer.split(" ")[0] for answer in answers]
+    return [len(words), *map(words.count, KINDS)]
 
 
 class Tree(PlainMap):
@@ -251,41 +252,50 @@ class Tree(PlainMap):
         return answer == b"ok" and not line.startswith("read ")
 
 
+def is_answered(tree, line, answer):
+    """Whether an answer is right beside the plain map: a line that is full is one that the map would accept, and the map
+    stays."""
+    if is_full(answer):
+        return tree.would_accept(line)
+    return tree.reply(line.encode()).decode() == answer
+
+
 def lines_of_fills(count):
-    """The lines of a fill of seed 1, by the rule alone."""
-    told = subprocess.run([TOOLS / "lines", "1", str(count)], stdout=subprocess.PIPE, text=True, check=True)
+    """The lines of a fill of seed 1 that draws so many, by the rule alone."""
+    told = subprocess.run([TOOLS / "lines", "1", str(8 + count)], stdout=subprocess.PIPE, text=True, check=True)
     return told.stdout.splitlines()
 
 
-def small_fill(rows, report, folder):
-    """A fill for which each line has room tells what the plain map replies to its lines."""
-    lines = lines_of_fills(508)
-    want = [508] + kinds_of(Tree(), lines, replies(lines))
-    told = filled(rows, folder, "small", 500)
-    report(told == want == [508, 216, 292, 0], f"a fill: {told}, and not {want}")
+def roomy_fills(rows, report, folder):
+    """A fill for which each line has room tells the kinds of the plain map's replies to its lines."""
+    for count, slots, known in ROOMY_FILLS[:1] if rows.is_slow else ROOMY_FILLS:
+        want = kinds_of(replies(lines_of_fills(count)))
+        told = filled(rows, folder, f"roomy{count}", slots, count)
+        report(told == want == known, f"a fill of {count} lines: {told}, and not {want}")
 
 
-def large_fills(rows, report, folder):
-    """A fill of 5,000 lines more tells the same on two new images: how often a run of its lines answers each kind,
-    whose replies are those of the plain map, but to lines that have no room. Slow programs make 200."""
+def full_fills(rows, report, folder):
+    """A fill of 5,000 lines more, of which some have no room, tells the same on two new images of 512 slots: 5,008
+    lines, and the kinds of the answers of a run of these lines, which are right beside the plain map. Slow programs
+    make 200."""
     count = 200 if rows.is_slow else 5000
-    lines = lines_of_fills(8 + count)
-    image = str(Path(folder) / "lines")
-    subprocess.run([rows.betr, "format", image, "512"], stdout=subprocess.DEVNULL, check=True)
+    lines, tree = lines_of_fills(count), Tree()
+    image = new_image(rows, folder, "lines", 512)
     script = "".join(line + "\n" for line in lines)
     run = subprocess.run([rows.betr, "run", image], input=script, stdout=subprocess.PIPE, text=True, check=False)
     answers = run.stdout.splitlines()
-    report(run.returncode == 0 and len(answers) == 8 + count, f"the lines of a fill: {len(answers)} answers")
-    want = [8 + count] + kinds_of(Tree(), lines, answers)
-    first, second = (filled(rows, folder, name, count) for name in ("first", "second"))
-    is_right = len(want) == 4 and first == second == want and sum(want[1:]) == 8 + count
-    report(is_right, f"fills: {first}, {second}, and not {want}")
+    are_right = len(answers) == 8 + count and all(is_answered(tree, *pair) for pair in zip(lines, answers))
+    report(run.returncode == 0 and are_right, f"the lines of a fill: {len(answers)} answers")
+    want = kinds_of(answers)
+    first, second = (filled(rows, folder, name, 512, count) for name in ("first", "second"))
+    is_told = first == second == want and sum(want[1:]) == 8 + count and (rows.is_slow or want[3] > 0)
+    report(is_told, f"fills: {first}, {second}, and not {want}")
 
 
 def fills(rows, report):
     with tempfile.TemporaryDirectory() as folder:
-        small_fill(rows, report, folder)
-        large_fills(rows, report, folder)
+        roomy_fills(rows, report, folder)
+        full_fills(rows, report, folder)
 
 
 def bad_slot(rows, report):
@@ -318,6 +328,6 @@ def test(rows, report):
     short_walks(rows, report, 256)
     full_images(rows, report)
     worn_level(rows, report)
-    long_script(rows, report)
+    long_scripts(rows, report)
     fills(rows, report)
     bad_slot(rows, report)

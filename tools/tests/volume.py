@@ -1,16 +1,14 @@
 """A volume on an image, through the whole program: lines beside the plain map over new starts, what it keeps where it
 is cut off at calls of the device, and what it says where slots are short."""
 import re
-import subprocess
 import tempfile
 from concurrent.futures import ThreadPoolExecutor
-from pathlib import Path
 
 from plain import PlainMap
+from script import TEARS, compare, given, is_full, new_image
 from session import Session
 import generated
 
-TEARS = ["old", "new", "0", "1", "255"]
 SERVICES = ("sync", "checkpoint", "reclaim")
 READS = ("read", "stat", "list")
 PIECE = 4096
@@ -33,7 +31,7 @@ def short(line):
 
 
 def script(lines):
-    return "".join(f"> {short(line)}\n" for line in lines)
+    return given(map(short, lines))
 
 
 def cut(passed, torn):
@@ -112,12 +110,6 @@ def answers_alike(rows, report, folder):
         answer_alike(session, report, tree, "after lines, checkpoints and a new start")
 
 
-def new_image(rows, folder, name, slots):
-    image = str(Path(folder) / name)
-    subprocess.run([rows.betr, "format", image, str(slots)], stdout=subprocess.DEVNULL, check=True)
-    return image
-
-
 def asked(session, lines):
     return [reply.decode() for reply in session.ask([line.encode() for line in lines])]
 
@@ -126,20 +118,6 @@ def answer_alike(session, report, tree, when):
     questions = generated.questions()
     for question, reply in zip(questions, asked(session, questions)):
         report(reply == reply_of(tree, question), f"volume: {when}: {question}: {reply[:80]}")
-
-
-def clones_of_all(rows, report):
-    """Copies of all made in turn, each below the ones before it, each of which visits at most five nodes for each of
-    the height, and two more."""
-    lines = ["create /f"]
-    for name in ("s1", "s2", "s3"):
-        lines += [f"clone / /{name}", "walk"]
-    call = rows.show(f"# clones of all\n-- slots 256\n{script(lines + ['list /s3'])}")[-1]
-    for line, reply in zip(lines, call.written):
-        told = re.fullmatch(r"ok walk (\d+) of (\d+)", reply)
-        is_such = told and int(told[1]) <= 5 * int(told[2]) + 2 and int(told[2]) > 0
-        report(is_such if line == "walk" else reply == "ok", f"volume: clones of all are cheap: {line}: {reply}")
-    report(call.written[len(lines):] == ["ok f s1/ s2/"], "volume: clones of all are cheap: list /s3")
 
 
 def early_nodes(rows, report):
@@ -151,18 +129,9 @@ def early_nodes(rows, report):
     end = f"-- status 5\n-- acks none\n{unsynced(lines + ['df'])}"
     replies = "".join(f"> {short(line)}\nok\n" for line in lines) + "> df\nok free 254 of 256\nfault source\n"
     begun = "# nodes are written early\n-- slots 256\n-- run\n"
-    told(rows, report, f"{begun}{end}{replies}{stay}-- bytes 164 0 42444e31\n")
+    compare(rows, f"{begun}{end}{replies}{stay}-- bytes 164 0 42444e31\n", report)
     before, after = calls_before(rows, [lines[:1], lines], 256)
     report(after - before >= 16, f"volume: nodes are written early: {after - before} calls")
-
-
-def told(rows, report, text):
-    """Reports rows with their replies and blocks."""
-    passed, differences = rows.differ(text)
-    for _ in range(passed):
-        report(True, "")
-    for difference in differences:
-        report(False, difference)
 
 
 def calls_of_syncs(rows, report):
@@ -237,12 +206,6 @@ def full_is_reclaimed(rows, report, folder, slots):
         report(asked(session, lines) == ["ok"] * 4 + ["ok g"], f"volume: {slots} full slots are reclaimed")
 
 
-def is_full(reply):
-    """Whether a reply says that more slots are needed than are free."""
-    found = re.fullmatch(r"full (\d+) (\d+)", reply)
-    return bool(found) and int(found[1]) < int(found[2])
-
-
 def full_lines(rows, report, folder, slots):
     """3,000 lines on so few slots that some find none free, each of which has a reclaiming after it, leave the tree of
     the others, which a new start finds too. Slow programs are given 300."""
@@ -262,7 +225,6 @@ def full_lines(rows, report, folder, slots):
 
 
 def test(rows, report):
-    clones_of_all(rows, report)
     early_nodes(rows, report)
     calls_of_syncs(rows, report)
     stopped_syncs(rows, report)

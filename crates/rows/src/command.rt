@@ -96,21 +96,31 @@ fn read_again(alloc: Global, bytes: &[u8]) -> Result<Option<usize>, AllocError> 
     })
 }
 
+// Whether a line's command has this log record.
+fn has_record(alloc: Global, line: &str, want: &[u8]) -> Result<bool, Fail> {
+    let bytes = record(alloc, line.as_bytes())?;
+    Ok(bytes.as_slice() == want)
+}
+
 #[test]
 fn commands_have_these_records(rt: HostRuntime) -> Result<(), Fail> {
     for (line, want) in RECORDS {
-        let bytes = record(rt.alloc(), line.as_bytes())?;
-        assert_eq!(rt; bytes.as_slice(), *want, "{line}");
+        assert!(rt; has_record(rt.alloc(), line, *want)?, "{line}");
     }
     Ok(())
 }
 
+// Whether a log record is read again, and the byte after it is left.
+fn is_read_again(alloc: Global, record: &[u8]) -> Result<bool, AllocError> {
+    let mut bytes = Vec::from_slice(alloc, record)?;
+    bytes.push(1)?;
+    Ok(read_again(alloc, &bytes)? == Some(1))
+}
+
 #[test]
 fn records_are_read_again(rt: HostRuntime) -> Result<(), Fail> {
-    for (line, want) in RECORDS {
-        let mut bytes = Vec::from_slice(rt.alloc(), want)?;
-        bytes.push(1)?;
-        assert_eq!(rt; read_again(rt.alloc(), &bytes)?, Some(1), "{line}");
+    for (line, record) in RECORDS {
+        assert!(rt; is_read_again(rt.alloc(), *record)?, "{line}");
     }
     Ok(())
 }
@@ -123,18 +133,36 @@ fn other_bytes_are_no_record(rt: HostRuntime) -> Result<(), Fail> {
     Ok(())
 }
 
-#[test]
-fn the_longest_record_has_2571_bytes(rt: HostRuntime) -> Result<(), Fail> {
-    // `write`, a path of two names of 255 bytes, 0, and 2,048 bytes in hex.
-    let mut line = vec![in rt.alloc(); b'0'; 4617]?;
+/// How long the longest line of a command is: `write`, a path of two names of 255 bytes, 0, and
+/// 2,048 bytes in hex.
+const LONGEST: usize = 4617;
+
+// Writes the longest line.
+fn put_longest(line: &mut [u8; LONGEST]) {
     line[..6].copy_from_slice(b"write ");
     line[6] = b'/';
     line[262] = b'/';
     line[518] = b' ';
     line[520] = b' ';
-    let bytes = record(rt.alloc(), &line)?;
-    assert_eq!(rt; (bytes.len(), MAX_RECORD), (2571, 2571));
-    assert!(rt; bytes.starts_with(&[10, 9, 3, 2, 0]));
-    assert_eq!(rt; read_again(rt.alloc(), &bytes)?, Some(0));
+}
+
+// Whether this is a log record of 2,571 bytes, which is read again.
+fn is_longest(alloc: Global, bytes: &[u8]) -> Result<bool, AllocError> {
+    let is_long = bytes.len() == 2571 && bytes.starts_with(&[10, 9, 3, 2, 0]);
+    Ok(is_long && read_again(alloc, bytes)? == Some(0))
+}
+
+// Whether the longest line has the longest log record.
+fn has_longest(alloc: Global, line: &[u8]) -> Result<bool, Fail> {
+    let bytes = record(alloc, line)?;
+    Ok(is_longest(alloc, &bytes)?)
+}
+
+#[test]
+fn the_longest_record_has_2571_bytes(rt: HostRuntime) -> Result<(), Fail> {
+    let mut line = [b'0'; LONGEST];
+    put_longest(&mut line);
+    assert!(rt; has_longest(rt.alloc(), &line)?);
+    assert_eq!(rt; MAX_RECORD, 2571);
     Ok(())
 }

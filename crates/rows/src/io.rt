@@ -1,69 +1,93 @@
 use bd_io::{Failed, MemSink, MemSource, Sink, Source, StdSink, StdSource, put_all};
-use std::alloc::Global;
+use std::alloc::{AllocError, Global};
 use std::io::{self, ErrorKind, Read, Write};
+use std::process::Abort;
 use std::test::Fail;
 
-// Takes until the end, in a place of four bytes, over at most nine calls: what each of them gave.
-fn takes<S: Source>(alloc: Global, source: &mut S) -> Result<Vec<Option<usize>>, Fail> {
-    let mut given = Vec::new(alloc);
-    for _ in 0..9 {
+// Whether takes in a place of four bytes give this, one after the other.
+fn gives<S: Source>(source: &mut S, want: &[Option<usize>]) -> bool {
+    for each in want {
         let mut place = [0; 4];
-        let count = source.take(&mut place).ok();
-        given.push(count)?;
-        if count == Some(0) {
-            break;
+        if source.take(&mut place).ok() != *each {
+            return false;
         }
     }
-    Ok(given)
+    true
+}
+
+/// The bytes that a take gives at most, the takes that fail, and what each take gives up to the end.
+const PIECES: &[(usize, [u64; 2], &[Option<usize>])] = &[
+    (
+        1,
+        [9, 9],
+        &[Some(1), Some(1), Some(1), Some(1), Some(1), Some(0)],
+    ),
+    (9, [9, 9], &[Some(4), Some(1), Some(0)]),
+    (3, [1, 3], &[None, Some(3), None, Some(2), Some(0)]),
+];
+
+// Whether a source of five bytes gives this.
+fn is_given(
+    alloc: Global,
+    piece: usize,
+    fail: &[u64],
+    want: &[Option<usize>],
+) -> Result<bool, AllocError> {
+    let mut source = MemSource::new(alloc, b"abcde", piece.max(1), fail)?;
+    Ok(gives(&mut &mut source, want))
 }
 
 #[test]
 fn a_source_gives_pieces_and_fails_where_it_is_told_to(rt: HostRuntime) -> Result<(), Fail> {
-    // The bytes that a take gives at most, the takes that fail, and what each take gives.
-    let rows: [(usize, [u64; 2], &[Option<usize>]); 3] = [
-        (
-            1,
-            [9, 9],
-            &[Some(1), Some(1), Some(1), Some(1), Some(1), Some(0)],
-        ),
-        (9, [9, 9], &[Some(4), Some(1), Some(0)]),
-        (3, [1, 3], &[None, Some(3), None, Some(2), Some(0)]),
-    ];
-    for (piece, fail, want) in rows {
-        let mut source = MemSource::new(rt.alloc(), b"abcde", piece, &fail)?;
-        let given = takes(rt.alloc(), &mut &mut source)?;
-        assert_eq!(rt; given.as_slice(), want, "in pieces of {piece}");
+    for (piece, fail, want) in PIECES {
+        assert!(rt;
+            is_given(rt.alloc(), *piece, fail.as_slice(), *want)?,
+            "in pieces of {piece}"
+        );
     }
     Ok(())
+}
+
+/// What is put, and what each put gives.
+const PUTS: &[(&str, Result<usize, Failed>)] = &[
+    ("abc", Ok(3)),
+    ("d", Err(Failed)),
+    ("defg", Ok(2)),
+    ("", Ok(0)),
+    ("f", Err(Failed)),
+];
+
+// Puts what fits.
+fn put(rt: &impl Abort, sink: &mut MemSink) {
+    for (piece, want) in PUTS {
+        assert!(rt; sink.put(piece.as_bytes()) == *want, "put of {piece}");
+    }
+    assert!(rt; sink.bytes() == b"abcde".as_slice());
 }
 
 #[test]
 fn a_sink_takes_what_fits_and_fails_where_it_is_told_to(rt: HostRuntime) -> Result<(), Fail> {
     let mut sink = MemSink::new(rt.alloc(), 5, &[2])?;
-    for (piece, want) in [
-        ("abc", Ok(3)),
-        ("d", Err(Failed)),
-        ("defg", Ok(2)),
-        ("", Ok(0)),
-        ("f", Err(Failed)),
-    ] {
-        assert_eq!(rt; sink.put(piece.as_bytes()), want, "put of {piece}");
-    }
-    assert_eq!(rt; sink.bytes(), b"abcde".as_slice());
+    put(&rt, &mut sink);
     Ok(())
+}
+
+// Whether a sink with so much room has this after all is put.
+fn has_all(
+    alloc: Global,
+    room: usize,
+    want: Result<(), Failed>,
+    bytes: &str,
+) -> Result<bool, AllocError> {
+    let mut sink = MemSink::new(alloc, room, &[9])?;
+    let found = put_all(&mut &mut sink, b"abcdefg");
+    Ok(found == want && sink.bytes() == bytes.as_bytes())
 }
 
 #[test]
 fn put_all_writes_in_pieces_up_to_a_fault(rt: HostRuntime) -> Result<(), Fail> {
-    for (room, want, bytes) in [(7, Ok(()), "abcdefg"), (5, Err(Failed), "abcde")] {
-        let mut sink = MemSink::new(rt.alloc(), room, &[9])?;
-        assert_eq!(rt;
-            put_all(&mut &mut sink, b"abcdefg"),
-            want,
-            "room for {room}"
-        );
-        assert_eq!(rt; sink.bytes(), bytes.as_bytes(), "room for {room}");
-    }
+    assert!(rt; has_all(rt.alloc(), 7, Ok(()), "abcdefg")?);
+    assert!(rt; has_all(rt.alloc(), 5, Err(Failed), "abcde")?);
     Ok(())
 }
 
@@ -102,33 +126,44 @@ impl Write for Flaky {
     }
 }
 
-#[test]
-fn a_reader_of_std_is_a_source(rt: HostRuntime) {
+// Whether one take gives the front of these bytes.
+fn is_taken(source: &mut StdSource<&[u8]>) -> bool {
     let mut place = [0; 4];
-    let mut source = StdSource::new(b"abcdef".as_slice());
-    assert_eq!(rt; source.take(&mut place), Ok(4));
-    assert_eq!(rt; place.as_slice(), b"abcd".as_slice());
-    let mut flaky = Flaky { calls: 0 };
-    let mut source = StdSource::new(&mut flaky);
-    for (call, want) in [(1, Ok(1)), (2, Err(Failed)), (3, Ok(0))] {
-        assert_eq!(rt; source.take(&mut place), want, "call {call}");
-    }
-    assert_eq!(rt; source.faults(), 1);
+    source.take(&mut place) == Ok(4) && place.as_slice() == b"abcd".as_slice()
 }
 
-// Writes bytes through a sink over a writer of std, and has it pass them on.
-fn put_through(alloc: Global, into: &mut Vec<u8>, bytes: &[u8]) -> Result<(), Fail> {
+#[test]
+fn a_reader_of_std_is_a_source(rt: HostRuntime) {
+    let mut source = StdSource::new(b"abcdef".as_slice());
+    assert!(rt; is_taken(&mut source));
+    let mut flaky = Flaky { calls: 0 };
+    let mut source = StdSource::new(&mut flaky);
+    assert!(rt; gives(&mut source, &[Some(1), None, Some(0)]));
+    assert!(rt; source.faults() == 1);
+}
+
+// Writes bytes, and has them passed on.
+fn put_through<S: Sink>(sink: &mut S, bytes: &[u8]) -> Result<(), Failed> {
+    put_all(sink, bytes)?;
+    sink.flush()
+}
+
+// Writes bytes through a sink over a writer of std.
+fn put_into(alloc: Global, into: &mut Vec<u8>, bytes: &[u8]) -> Result<(), Fail> {
     let mut sink = StdSink::new(alloc, into)?;
-    put_all(&mut sink, bytes)?;
-    sink.flush()?;
+    Ok(put_through(&mut sink, bytes)?)
+}
+
+#[test]
+fn a_sink_passes_on_to_a_writer_of_std(rt: HostRuntime) -> Result<(), Fail> {
+    let mut bytes = Vec::new(rt.alloc());
+    put_into(rt.alloc(), &mut bytes, b"abc")?;
+    assert!(rt; bytes.as_slice() == b"abc".as_slice());
     Ok(())
 }
 
 #[test]
 fn a_writer_of_std_is_a_sink(rt: HostRuntime) -> Result<(), Fail> {
-    let mut bytes = Vec::new(rt.alloc());
-    put_through(rt.alloc(), &mut bytes, b"abc")?;
-    assert_eq!(rt; bytes.as_slice(), b"abc".as_slice());
     let mut flaky = Flaky { calls: 0 };
     let mut sink = StdSink::new(rt.alloc(), &mut flaky)?;
     assert_eq!(rt; sink.put(b"ab"), Ok(2));

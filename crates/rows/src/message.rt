@@ -6,38 +6,58 @@ ghost use Rattle.bd_limits.specs.Limits.{key_limit, block_limit};
 use bd_keys::Bytes;
 use bd_message::{KeyMap, ListMap, MapFault, Message, laws};
 use bd_wire::{Cursor, Out};
-use rows_tools::{apply, graft, message};
+use rows_tools::{apply, graft, message, words};
 use std::alloc::{AllocError, Global};
+use std::process::Abort;
 use std::test::Fail;
 
-// A key, a space and the value.
-fn joined(found: Option<(Vec<u8>, Vec<u8>)>) -> Result<Option<Vec<u8>>, AllocError> {
-    let Some((mut text, value)) = found else {
-        return Ok(None);
-    };
-    text.push(b' ')?;
-    text.extend_from_slice(value.as_slice())?;
-    Ok(Some(text))
+// Whether this stands at a key.
+fn is_at<M: KeyMap>(map: &mut M, key: &str, want: Option<&str>) -> Result<bool, Fail> {
+    let found = map.get(key.as_bytes())?;
+    Ok(found.as_ref().map(|found| found.as_slice()) == want.map(|want| want.as_bytes()))
 }
 
-// What a call gives, written as a word and its two arguments.
-fn called<M: KeyMap>(alloc: Global, map: &mut M, call: &str) -> Result<Option<Vec<u8>>, Fail> {
-    let mut words = call.split(' ');
-    let name = words.next().unwrap_or("");
-    let first = words.next().unwrap_or("");
-    let second = words.next().unwrap_or("");
+// Whether this is the next key and its value, with a space between.
+fn is_next<M: KeyMap>(
+    map: &mut M,
+    from: &str,
+    within: &str,
+    want: Option<&str>,
+) -> Result<bool, Fail> {
+    let found = map.next(from.as_bytes(), within.as_bytes())?;
+    Ok(match (&found, want) {
+        (Some((key, value)), Some(want)) => is_pair(key, value, want),
+        (None, None) => true,
+        _ => false,
+    })
+}
+
+// Whether a text is a key, a space and a value.
+fn is_pair(key: &[u8], value: &[u8], text: &str) -> bool {
+    let (first, second, _) = words(text);
+    key == first.as_bytes() && value == second.as_bytes()
+}
+
+// Whether a call, written as a word and its two arguments, gives this.
+fn gives<M: KeyMap>(
+    alloc: Global,
+    map: &mut M,
+    call: &str,
+    want: Option<&str>,
+) -> Result<bool, Fail> {
+    let (name, first, second) = words(call);
     match name {
-        "get" => return Ok(map.get(first.as_bytes())?),
-        "next" => return Ok(joined(map.next(first.as_bytes(), second.as_bytes())?)?),
+        "get" => return is_at(map, first, want),
+        "next" => return is_next(map, first, second, want),
         "copy" => graft(map, first.as_bytes(), second.as_bytes(), true)?,
         "move" => graft(map, first.as_bytes(), second.as_bytes(), false)?,
-        _ => apply(map, message(alloc, name, first, second)?)?,
+        _ => apply(map, message(alloc, call)?)?,
     }
-    Ok(None)
+    Ok(true)
 }
 
 /// Calls of one key map, and what `get` and `next` give: a value, and a key with its value.
-const CALLS: [(&str, Option<&str>); 21] = [
+const CALLS: &[(&str, Option<&str>)] = &[
     ("patch p xy", None),
     ("get p", Some("\0\0\0xy")),
     ("next p ", Some("p \0\0\0xy")),
@@ -63,15 +83,18 @@ const CALLS: [(&str, Option<&str>); 21] = [
     ("next u ", Some("ua/a 1")),
 ];
 
+// Makes the calls.
+fn call(rt: &impl Abort, alloc: Global, map: &mut ListMap) -> Result<(), Fail> {
+    for (call, want) in CALLS {
+        assert!(rt; gives(alloc, map, call, *want)?, "{call}");
+    }
+    Ok(())
+}
+
 #[test]
 fn calls_of_a_key_map(rt: HostRuntime) -> Result<(), Fail> {
     let mut map = ListMap::new(rt.alloc());
-    for (call, want) in CALLS {
-        let found = called(rt.alloc(), &mut map, call)?;
-        let found = found.as_ref().map(|found| found.as_slice());
-        assert!(rt; found == want.map(|want| want.as_bytes()), "{call}");
-    }
-    Ok(())
+    call(&rt, rt.alloc(), &mut map)
 }
 
 // Puts a value and gets it back, over any key map: every other key keeps what it has.
@@ -99,15 +122,19 @@ fn put_and_get<M: KeyMap>(
     map.get(key)
 }
 
-#[test]
-fn what_is_put_is_got(rt: HostRuntime) -> Result<(), Fail> {
-    let mut map = ListMap::new(rt.alloc());
+// Whether what is put is got.
+fn is_got(alloc: Global, map: &mut ListMap) -> Result<bool, Fail> {
     if map.room() < 18 {
         return Err(Fail::new("no room"));
     }
-    let found = put_and_get(rt.alloc(), &mut map, &[b'a'], &[b'1'])?;
-    let found = found.as_ref().map(|found| found.as_slice());
-    assert!(rt; found == Some(b"1".as_slice()));
+    let found = put_and_get(alloc, map, &[b'a'], &[b'1'])?;
+    Ok(found.as_ref().map(|found| found.as_slice()) == Some(b"1".as_slice()))
+}
+
+#[test]
+fn what_is_put_is_got(rt: HostRuntime) -> Result<(), Fail> {
+    let mut map = ListMap::new(rt.alloc());
+    assert!(rt; is_got(rt.alloc(), &mut map)?);
     Ok(())
 }
 
@@ -130,32 +157,41 @@ fn is_read(alloc: Global, message: &Message, bytes: &[u8]) -> Result<bool, Alloc
     Ok(found.as_ref() == Some(message) && cursor.left().is_empty())
 }
 
+/// Messages, and their bytes.
+const BYTES: &[(&str, &[u8])] = &[
+    ("put k v", &[1, 0, 1, b'k', 0, 1, b'v']),
+    ("del k", &[2, 0, 1, b'k']),
+    ("patch k v", &[3, 0, 1, b'k', 0, 3, 0, 1, b'v']),
+    ("cut k", &[4, 0, 1, b'k', 0, 0]),
+    (
+        "goto p s",
+        &[5, 0, 1, b'p', 0, 1, b's', 0, 0, 0, 0, 0, 0, 0, 7],
+    ),
+];
+
+// Whether a message is written as these bytes, and read of them.
+fn has_bytes(alloc: Global, text: &str, bytes: &[u8]) -> Result<bool, AllocError> {
+    let message = message(alloc, text)?;
+    Ok(is_written(&message, bytes) && is_read(alloc, &message, bytes)?)
+}
+
 #[test]
 fn messages_as_bytes(rt: HostRuntime) -> Result<(), Fail> {
-    let rows: [(&str, &str, &str, &[u8]); 5] = [
-        ("put", "k", "v", &[1, 0, 1, b'k', 0, 1, b'v']),
-        ("del", "k", "", &[2, 0, 1, b'k']),
-        ("patch", "k", "v", &[3, 0, 1, b'k', 0, 3, 0, 1, b'v']),
-        ("cut", "k", "", &[4, 0, 1, b'k', 0, 0]),
-        (
-            "goto",
-            "p",
-            "s",
-            &[5, 0, 1, b'p', 0, 1, b's', 0, 0, 0, 0, 0, 0, 0, 7],
-        ),
-    ];
-    for (name, first, second, bytes) in rows {
-        let message = message(rt.alloc(), name, first, second)?;
-        assert!(rt; is_written(&message, bytes), "{name} is written");
-        assert!(rt; is_read(rt.alloc(), &message, bytes)?, "{name} is read");
+    for (text, bytes) in BYTES {
+        assert!(rt; has_bytes(rt.alloc(), text, *bytes)?, "{text}");
     }
     Ok(())
 }
 
+// Whether there is no message at the front, which stays there.
+fn is_left(alloc: Global, bytes: &[u8]) -> Result<bool, AllocError> {
+    let mut cursor = Cursor::new(bytes);
+    let found = Message::read(alloc, &mut cursor)?;
+    Ok(found.is_none() && cursor.left().len() == bytes.len())
+}
+
 #[test]
 fn bytes_of_no_message_are_left(rt: HostRuntime) -> Result<(), Fail> {
-    let mut cursor = Cursor::new(&[6, 0, 1, b'k']);
-    assert!(rt; Message::read(rt.alloc(), &mut cursor)? == None);
-    assert_eq!(rt; cursor.left().len(), 4);
+    assert!(rt; is_left(rt.alloc(), &[6, 0, 1, b'k'])?);
     Ok(())
 }

@@ -4,6 +4,7 @@
 use bd_plain::PlainTree;
 use rows_tools::{plain_answer, text_of};
 use std::alloc::Global;
+use std::process::Abort;
 use std::test::Fail;
 
 /// Lines that take each command, with their replies.
@@ -31,12 +32,22 @@ fn answered(alloc: Global, tree: &mut PlainTree, line: &str) -> Result<String, F
     text_of(alloc, &found)
 }
 
+/// Whether a line is answered so.
+fn is_answered(alloc: Global, tree: &mut PlainTree, line: &str, want: &str) -> Result<bool, Fail> {
+    let found = answered(alloc, tree, line)?;
+    Ok(found.as_str() == want)
+}
+
+/// Takes the lines.
+fn take(rt: &impl Abort, alloc: Global, tree: &mut PlainTree) -> Result<(), Fail> {
+    for (line, want) in LINES {
+        assert!(rt; is_answered(alloc, tree, line, want)?, "{line}");
+    }
+    Ok(())
+}
+
 #[test]
 fn each_command_is_taken(rt: HostRuntime) -> Result<(), Fail> {
     let mut tree = PlainTree::new(rt.alloc())?;
-    for (line, want) in LINES {
-        let found = answered(rt.alloc(), &mut tree, line)?;
-        assert_eq!(rt; found.as_str(), *want, "{line}");
-    }
-    Ok(())
+    take(&rt, rt.alloc(), &mut tree)
 }

@@ -20,30 +20,32 @@ fn records_are_written(rt: HostRuntime) -> Result<(), Fail> {
     Ok(())
 }
 
+/// Bytes, and the record that they are.
+const READ: &[(&[u8], Option<Record>)] = &[
+    (&[0x44], Some(Record::Dir(0))),
+    (&[0x46, 0, 0, 0, 0], Some(Record::File(0, 0))),
+    (&[0x46, 0x40, 0, 0, 0], Some(Record::File(MAX_FILE, 0))),
+    (&[], None),
+    (&[0x45], None),
+    (&[0x44, 0], None),
+    (&[0x46, 0, 0, 0], None),
+    (&[0x46, 0x40, 0, 0, 1], None),
+    (&[0x46, 0, 0, 0, 0, 0], None),
+    (
+        &[0x46, 0, 0, 0, 0, 0x01, 0xa4],
+        Some(Record::File(0, 0o644)),
+    ),
+    (&[0x44, 0x0f, 0xff], Some(Record::Dir(MAX_MODE))),
+    (&[0x44, 0, 1], Some(Record::Dir(1))),
+    (&[0x44, 0, 0], None),
+    (&[0x44, 0x10, 0], None),
+    (&[0x46, 0, 0, 0, 0, 0, 0], None),
+    (&[0x46, 0, 0, 0, 0, 0, 1, 0], None),
+];
+
 #[test]
 fn records_are_read(rt: HostRuntime) {
-    let rows: [(&[u8], Option<Record>); 16] = [
-        (&[0x44], Some(Record::Dir(0))),
-        (&[0x46, 0, 0, 0, 0], Some(Record::File(0, 0))),
-        (&[0x46, 0x40, 0, 0, 0], Some(Record::File(MAX_FILE, 0))),
-        (&[], None),
-        (&[0x45], None),
-        (&[0x44, 0], None),
-        (&[0x46, 0, 0, 0], None),
-        (&[0x46, 0x40, 0, 0, 1], None),
-        (&[0x46, 0, 0, 0, 0, 0], None),
-        (
-            &[0x46, 0, 0, 0, 0, 0x01, 0xa4],
-            Some(Record::File(0, 0o644)),
-        ),
-        (&[0x44, 0x0f, 0xff], Some(Record::Dir(MAX_MODE))),
-        (&[0x44, 0, 1], Some(Record::Dir(1))),
-        (&[0x44, 0, 0], None),
-        (&[0x44, 0x10, 0], None),
-        (&[0x46, 0, 0, 0, 0, 0, 0], None),
-        (&[0x46, 0, 0, 0, 0, 0, 1, 0], None),
-    ];
-    for (bytes, record) in rows {
-        assert_eq!(rt; read_record(bytes), record, "record {bytes:?}");
+    for (bytes, record) in READ {
+        assert!(rt; read_record(*bytes) == *record, "record {bytes:?}");
     }
 }

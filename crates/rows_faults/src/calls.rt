@@ -13,8 +13,8 @@ use std::alloc::Global;
 use std::process::Abort;
 use std::test::Fail;
 
-/// A volume on a new image of so many slots, of whose device, which has room for so many writes, this
-/// call fails, which is a later one: so it is made, or there is no memory.
+/// A volume on a new image of so many slots, of whose device, which has room for so many writes,
+/// this call fails, which is a later one: so it is made, or there is no memory.
 pub fn formatted(
     rt: &impl Abort,
     alloc: Global,

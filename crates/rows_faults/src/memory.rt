@@ -1,8 +1,8 @@
 //! Want of memory. Where a volume refuses a line for it, each path reads as before, and the same
-//! line is done at the second time. No allocation fails of itself: `rt try --test --fail-alloc N`
-//! makes the Nth one fail, and no other. Where it is one of the test's own or of the image's making,
-//! the script begins anew, and then each of its lines is done: so no test ends well that sees want
-//! of memory twice.
+//! line is done at the second time; a question is asked twice. No allocation fails of itself:
+//! `rt try --test --fail-alloc N` makes the Nth one fail, and no other. Where it is one of the
+//! test's own or of the image's making, the script begins anew, and then each of its lines is done:
+//! so no test ends well that sees want of memory twice.
 
 use crate::calls::{formatted, keeps, piece_line, repeated, said};
 use bd_device::MemDevice;
@@ -26,7 +26,7 @@ const FULL: &str = " are needed";
 /// A part of a script.
 #[derive(Clone, Copy)]
 enum Part {
-    /// Lines that are done. `N` and `M` stand for two names of 255 bytes.
+    /// Lines that are done. `N` and `M` stand for two names of 255 bytes, `X` for one of 200.
     Lines(&'static [&'static str]),
     /// So many pieces of a file, which are written.
     Pieces(&'static str, u32),
@@ -43,6 +43,58 @@ struct Script {
     paths: &'static [&'static str],
     length: u32,
 }
+
+/// A file and its clone are written apart; `/` is cloned, and a part of its clone.
+const APART: Script = Script {
+    slots: 24,
+    parts: &[
+        Part::Lines(&[
+            "create /a",
+            "write /a 0 01",
+            "clone /a /b",
+            "read /b 0 1",
+            "write /a 0 02",
+            "write /b 0 03",
+            "read /a 0 1",
+            "read /b 0 1",
+            "mkdir /p",
+            "create /p/f",
+            "clone / /s",
+            "clone /s/p /q",
+            "stat /q/f",
+            "list /s",
+            "list /",
+        ]),
+        Part::Ask,
+    ],
+    paths: &[
+        "/", "/a", "/b", "/p", "/p/f", "/q", "/q/f", "/s", "/s/a", "/s/b", "/s/p", "/s/p/f",
+    ],
+    length: 4_096,
+};
+
+/// Clones make a path of 605 bytes, and what stands there is cloned.
+const DEEP: Script = Script {
+    slots: 24,
+    parts: &[
+        Part::Lines(&[
+            "mkdir /X",
+            "mkdir /X/X",
+            "create /X/X/f",
+            "clone /X /X/X/c",
+            "clone /X/X /q",
+            "list /q",
+            "stat /q/c/X/f",
+            "clone /q/c/X /v",
+            "stat /v/f",
+        ]),
+        Part::Ask,
+    ],
+    paths: &[
+        "/", "/X", "/X/X", "/X/X/f", "/q", "/q/f", "/q/c", "/q/c/X", "/q/c/X/f", "/v", "/v/f",
+    ],
+    length: 4_096,
+};
 
 /// A file is cloned with its directory, both are written, and the clone is cloned. More of it is
 /// written than waits in the root.
@@ -126,7 +178,7 @@ const LONG: Script = Script {
 };
 
 /// A volume and the plain program after the same lines, what is asked of both, and how many lines
-/// were refused for want of memory.
+/// and questions were refused for want of memory.
 struct Pair {
     volume: Volume<MemDevice>,
     tree: PlainTree,
@@ -146,13 +198,14 @@ impl Drop for Pair {
     }
 }
 
-/// A line in which `N` and `M` stand for names of 255 bytes.
+/// A line in which `N` and `M` stand for names of 255 bytes, and `X` for one of 200.
 fn with_names(alloc: Global, line: &str) -> Result<String, Fail> {
     let mut long = String::new(alloc);
     for letter in line.chars() {
         match letter {
             'N' => long.push_str(&repeated(alloc, "n", 255)?)?,
             'M' => long.push_str(&repeated(alloc, "m", 255)?)?,
+            'X' => long.push_str(&repeated(alloc, "x", 200)?)?,
             _ => long.push(letter)?,
         }
     }
@@ -179,6 +232,22 @@ fn questions(alloc: Global, script: &Script) -> Result<Vec<String>, Fail> {
     Ok(all)
 }
 
+/// What a volume answers to a question, which is asked again where at first there was no memory: it
+/// is counted then.
+fn asked(
+    alloc: Global,
+    volume: &mut Volume<MemDevice>,
+    refused: &mut u32,
+    question: &str,
+) -> Result<String, Fail> {
+    let found = said(alloc, volume, question)?;
+    if found.as_str() != NO_MEMORY {
+        return Ok(found);
+    }
+    *refused = refused.saturating_add(1);
+    said(alloc, volume, question)
+}
+
 /// What the plain program answers to a line.
 fn wanted(alloc: Global, tree: &mut PlainTree, line: &str) -> Result<String, Fail> {
     if keeps(line) {
@@ -202,14 +271,14 @@ impl Pair {
     /// Whether both answer the questions alike.
     fn ask(&mut self, rt: &impl Abort, alloc: Global, line: &str) -> Result<(), Fail> {
         for question in &self.questions {
-            let found = said(alloc, &mut self.volume, question)?;
+            let found = asked(alloc, &mut self.volume, &mut self.refused, question)?;
             let want = wanted(alloc, &mut self.tree, question)?;
             assert_eq!(rt; found.as_str(), want.as_str(), "{line}: {question}");
         }
         Ok(())
     }
 
-    /// What the volume answers to a line, at the second time where it is refused for want of memory.
+    /// What the volume answers to a line, at the second time where at first there was no memory.
     fn answer(&mut self, rt: &impl Abort, alloc: Global, line: &str) -> Result<String, Fail> {
         let found = said(alloc, &mut self.volume, line)?;
         if found.as_str() != NO_MEMORY {
@@ -302,6 +371,18 @@ fn told<R: Abort + Eprint>(rt: &R, alloc: Global, script: &Script) -> Result<&'s
             Ok("the test had no memory, and at the second time all was done")
         }
     }
+}
+
+#[test]
+fn files_apart_read_as_before(rt: HostRuntime) -> Result<(), Fail> {
+    let _ = rt.println(told(&rt, rt.alloc(), &APART)?);
+    Ok(())
+}
+
+#[test]
+fn deep_clones_read_as_before(rt: HostRuntime) -> Result<(), Fail> {
+    let _ = rt.println(told(&rt, rt.alloc(), &DEEP)?);
+    Ok(())
 }
 
 #[test]

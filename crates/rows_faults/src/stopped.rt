@@ -15,8 +15,8 @@ const WRITES: usize = 2_000;
 /// How many pieces of 2,048 bytes the large file has, whose nodes stand on two levels.
 const PIECES: u32 = 60;
 
-/// Lines on an image with the large file with what they are answered. They read nodes, and change so
-/// few that none is written.
+/// Lines on an image with the large file with what they are answered. They read nodes, and change
+/// so few that none is written.
 const READING: &[(&str, &str)] = &[
     ("stat /d/f", "ok file 122880 0000"),
     ("read /d/f 90000 4", "ok 5a5a5a5a"),

@@ -1,10 +1,10 @@
-ghost use Rattle.std.specs.Prelude.{◌<◌, ◌≤◌, length, IfOk};
-ghost use Rattle.bd_message.specs.Messages.{IsMessage};
+//! Edges of a Goto's own.
+
+ghost use Rattle.std.specs.Prelude.{◌≤◌, length, IfOk};
 ghost use Rattle.bd_node.specs.Nodes.{level_of};
 ghost use Rattle.bd_node.specs.Shape.{IsShape};
 
-use crate::inner::{node, parts, put, raised, with_two};
-use crate::made::message;
+use crate::inner::{are_puts, made, parts, raised};
 use bd_inner::carve;
 use bd_limits::ROOM_EDGES;
 use bd_message::Message;
@@ -16,24 +16,57 @@ use std::test::Fail;
 /// messages it has seen.
 type Row = (&'static str, u16, &'static str, Option<u64>, u32);
 
-// A Goto of a prefix, to child 7 with "s" in front.
-fn goto(alloc: Global, prefix: &str) -> Result<Message, Fail>
-    ensures { IfOk result IsMessage }
-{
-    let message = message(alloc, "goto", prefix, "s")?;
-    if !message.is_message() {
-        return Err(Fail::new("no such message"));
-    }
-    Ok(message)
+/// A node whose edges begin at these keys, where a Goto to child 7 waits, and then a Put of a: what
+/// is shown, the keys, the Goto, whether the first edge has seen it, and the edges after it is carved
+/// out.
+struct Case {
+    name: &'static str,
+    pivots: &'static str,
+    goto: &'static str,
+    is_raised: bool,
+    edges: &'static [Row],
 }
 
-// A node with such edges, where a Goto of a prefix waits, and then a Put of a.
-fn with_goto(alloc: Global, pivots: &str, prefix: &str) -> Result<Node, Fail>
-    ensures { IfOk result IsShape }
-{
-    let node = node(alloc, pivots)?;
-    with_two(alloc, &node, goto(alloc, prefix)?, put(alloc, "a")?)
-}
+const CASES: &[Case] = &[
+    Case {
+        name: "inside one edge",
+        pivots: " m",
+        goto: "goto c s",
+        is_raised: false,
+        edges: &[
+            ("", 0, "", None, 0),
+            ("c", 1, "s", Some(7), 0),
+            ("d", 0, "", None, 0),
+            ("m", 0, "", None, 0),
+        ],
+    },
+    Case {
+        name: "over several edges",
+        pivots: " b cb d",
+        goto: "goto c s",
+        is_raised: false,
+        edges: &[
+            ("", 0, "", None, 0),
+            ("b", 0, "", None, 0),
+            ("c", 1, "s", Some(7), 0),
+            ("d", 0, "", None, 0),
+        ],
+    },
+    Case {
+        name: "the first edge has seen it",
+        pivots: " c cb",
+        goto: "goto  s",
+        is_raised: true,
+        edges: &[("", 0, "", None, 0), ("c", 0, "s", Some(7), 0)],
+    },
+    Case {
+        name: "of all keys",
+        pivots: " c",
+        goto: "goto  s",
+        is_raised: false,
+        edges: &[("", 0, "s", Some(7), 0)],
+    },
+];
 
 // The node after its first message is carved out.
 fn carved(alloc: Global, node: &Node) -> Result<Node, Fail>
@@ -59,54 +92,40 @@ fn is_row(edge: &Edge, row: &Row) -> bool {
 }
 
 // Whether a node has just these edges, and the Put of a waits in it.
-fn has(alloc: Global, node: &Node, rows: &[Row]) -> Result<bool, Fail> {
+fn has(node: &Node, rows: &[Row]) -> bool {
     let (edges, messages) = parts(node);
     let same = edges.iter().zip(rows).all(|(edge, row)| is_row(edge, row));
-    Ok(same && edges.len() == rows.len() && messages == [put(alloc, "a")?].as_slice())
+    same && edges.len() == rows.len() && are_puts(messages, &["a"])
+}
+
+// The node of a case.
+fn before(alloc: Global, case: &Case) -> Result<Node, Fail>
+    ensures { IfOk result IsShape }
+{
+    let node = made(alloc, case.pivots, case.goto, "put a v")?;
+    if case.is_raised {
+        raised(alloc, &node)
+    } else {
+        Ok(node)
+    }
+}
+
+// The node of a case after its Goto is carved out.
+fn after(alloc: Global, case: &Case) -> Result<Node, Fail> {
+    let node = before(alloc, case)?;
+    carved(alloc, &node)
+}
+
+// Whether a case holds.
+fn holds(alloc: Global, case: &Case) -> Result<bool, Fail> {
+    let node = after(alloc, case)?;
+    Ok(has(&node, case.edges))
 }
 
 #[test]
-fn a_goto_inside_one_edge(rt: HostRuntime) -> Result<(), Fail> {
-    let node = with_goto(rt.alloc(), " m", "c")?;
-    let node = carved(rt.alloc(), &node)?;
-    let rows = [
-        ("", 0, "", None, 0),
-        ("c", 1, "s", Some(7), 0),
-        ("d", 0, "", None, 0),
-        ("m", 0, "", None, 0),
-    ];
-    assert!(rt; has(rt.alloc(), &node, &rows)?);
-    Ok(())
-}
-
-#[test]
-fn a_goto_over_several_edges(rt: HostRuntime) -> Result<(), Fail> {
-    let node = with_goto(rt.alloc(), " b cb d", "c")?;
-    let node = carved(rt.alloc(), &node)?;
-    let rows = [
-        ("", 0, "", None, 0),
-        ("b", 0, "", None, 0),
-        ("c", 1, "s", Some(7), 0),
-        ("d", 0, "", None, 0),
-    ];
-    assert!(rt; has(rt.alloc(), &node, &rows)?);
-    Ok(())
-}
-
-#[test]
-fn a_goto_that_the_first_edge_has_seen(rt: HostRuntime) -> Result<(), Fail> {
-    let node = with_goto(rt.alloc(), " c cb", "")?;
-    let node = raised(rt.alloc(), &node)?;
-    let node = carved(rt.alloc(), &node)?;
-    let rows = [("", 0, "", None, 0), ("c", 0, "s", Some(7), 0)];
-    assert!(rt; has(rt.alloc(), &node, &rows)?);
-    Ok(())
-}
-
-#[test]
-fn a_goto_of_all_keys(rt: HostRuntime) -> Result<(), Fail> {
-    let node = with_goto(rt.alloc(), " c", "")?;
-    let node = carved(rt.alloc(), &node)?;
-    assert!(rt; has(rt.alloc(), &node, &[("", 0, "s", Some(7), 0)])?);
+fn gotos_are_carved_out(rt: HostRuntime) -> Result<(), Fail> {
+    for case in CASES {
+        assert!(rt; holds(rt.alloc(), case)?, "{}", case.name);
+    }
     Ok(())
 }

@@ -1,10 +1,9 @@
 //! Images of nodes: rows by hand, read and written again, and bytes that are no node's image.
 
 use bd_format::{decode, encode};
-use bd_keys::Bytes;
 use bd_limits::SLOT_SIZE;
 use bd_message::Message;
-use bd_node::Node;
+use bd_node::{Edge, Node};
 use std::alloc::{AllocError, Global};
 use std::test::Fail;
 
@@ -54,44 +53,64 @@ fn is_read_and_written(alloc: Global, bytes: &[u8; SLOT_SIZE]) -> Result<bool, A
     Ok(again == *bytes)
 }
 
+/// Images, in front of zeros.
+const IMAGES: &[(&str, &[u8])] = &[
+    ("a fresh root", &FRESH_ROOT),
+    ("an empty leaf", &EMPTY_LEAF),
+    ("a leaf", &LEAF),
+    ("an inner node", &INNER),
+];
+
 #[test]
 fn images_are_read_and_written(rt: HostRuntime) -> Result<(), Fail> {
-    let rows: [(&str, &[u8]); 4] = [
-        ("a fresh root", &FRESH_ROOT),
-        ("an empty leaf", &EMPTY_LEAF),
-        ("a leaf", &LEAF),
-        ("an inner node", &INNER),
-    ];
-    for (name, front) in rows {
-        let image = image_of(front);
+    for (name, front) in IMAGES {
+        let image = image_of(*front);
         assert!(rt; is_read_and_written(rt.alloc(), &image)?, "{name}");
     }
     Ok(())
 }
 
-// Whether the node is the root of a fresh image.
-fn is_fresh_root(alloc: Global, node: &Node) -> Result<bool, AllocError> {
-    let record = Message::Put {
-        key: Bytes::from_slice(alloc, &[0, 0])?,
-        value: Bytes::from_slice(alloc, &[0x44])?,
-    };
-    let Node::Inner {
-        level,
-        edges,
-        buffer,
-    } = node
-    else {
-        return Ok(false);
-    };
-    let is_open = edges.as_slice().iter().all(|edge| edge.child.is_none());
-    Ok(*level == 1 && edges.len() == 1 && is_open && buffer.as_slice() == [record].as_slice())
+// Whether a node is the root of a fresh image.
+fn is_fresh_root(node: &Node) -> bool {
+    match node {
+        Node::Leaf(_) => false,
+        Node::Inner {
+            level,
+            edges,
+            buffer,
+        } => *level == 1 && are_open(edges.as_slice()) && is_record(buffer.as_slice()),
+    }
+}
+
+// Whether this is one edge without a child.
+fn are_open(edges: &[Edge]) -> bool {
+    match edges {
+        [edge] => edge.child.is_none(),
+        _ => false,
+    }
+}
+
+// Whether this is one Put of the root's record.
+fn is_record(messages: &[Message]) -> bool {
+    match messages {
+        [Message::Put { key, value }] => key.as_slice() == b"\0\0".as_slice()
+            && value.as_slice() == b"D".as_slice(),
+        _ => false,
+    }
+}
+
+// Whether a fresh image is read as its root.
+fn is_fresh_root_read(alloc: Global, image: &[u8; SLOT_SIZE]) -> Result<bool, AllocError> {
+    match decode(alloc, image)? {
+        Some(node) => Ok(is_fresh_root(&node)),
+        None => Ok(false),
+    }
 }
 
 #[test]
 fn a_fresh_root_is_read(rt: HostRuntime) -> Result<(), Fail> {
     let image = image_of(&FRESH_ROOT);
-    let node = decode(rt.alloc(), &image)?.ok_or("none is read")?;
-    assert!(rt; is_fresh_root(rt.alloc(), &node)?);
+    assert!(rt; is_fresh_root_read(rt.alloc(), &image)?);
     Ok(())
 }
 
@@ -104,24 +123,26 @@ fn is_refused(alloc: Global, front: &[u8], place: usize, byte: u8) -> Result<boo
     Ok(decode(alloc, &bytes)?.is_none())
 }
 
+/// Bytes that are no node's image: what is wrong, an image, the place of another byte, and the byte.
+const NONE: &[(&str, &[u8], usize, u8)] = &[
+    ("the last zero is another byte", &FRESH_ROOT, 65_535, 1),
+    ("the message is pending for no edge", &FRESH_ROOT, 33, 1),
+    ("it begins otherwise", &FRESH_ROOT, 0, 0x43),
+    ("a leaf with a message", &FRESH_ROOT, 7, 0),
+    ("a message is missing", &FRESH_ROOT, 15, 2),
+    ("a lift where nothing is in common", &FRESH_ROOT, 19, 1),
+    ("keys that fall", &LEAF, 18, 0x62),
+    ("a value without a byte", &EMPTY_LEAF, 11, 1),
+    ("a lift one too long", &INNER, 39, 3),
+    ("the last message has been seen", &INNER, 55, 2),
+    ("more seen than there are", &INNER, 55, 3),
+    ("pivots that are the same", &INNER, 59, 0),
+];
+
 #[test]
 fn other_bytes_are_no_image(rt: HostRuntime) -> Result<(), Fail> {
-    let rows: [(&str, &[u8], usize, u8); 12] = [
-        ("the last zero is another byte", &FRESH_ROOT, 65_535, 1),
-        ("the message is pending for no edge", &FRESH_ROOT, 33, 1),
-        ("it begins otherwise", &FRESH_ROOT, 0, 0x43),
-        ("a leaf with a message", &FRESH_ROOT, 7, 0),
-        ("a message is missing", &FRESH_ROOT, 15, 2),
-        ("a lift where nothing is in common", &FRESH_ROOT, 19, 1),
-        ("keys that fall", &LEAF, 18, 0x62),
-        ("a value without a byte", &EMPTY_LEAF, 11, 1),
-        ("a lift one too long", &INNER, 39, 3),
-        ("the last message has been seen", &INNER, 55, 2),
-        ("more seen than there are", &INNER, 55, 3),
-        ("pivots that are the same", &INNER, 59, 0),
-    ];
-    for (name, front, place, byte) in rows {
-        assert!(rt; is_refused(rt.alloc(), front, place, byte)?, "{name}");
+    for (name, front, place, byte) in NONE {
+        assert!(rt; is_refused(rt.alloc(), *front, *place, *byte)?, "{name}");
     }
     Ok(())
 }

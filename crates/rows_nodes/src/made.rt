@@ -1,16 +1,26 @@
-//! Messages that tests make.
+//! Messages that tests make of texts.
+
+ghost use Rattle.std.specs.Prelude.{IfOk};
+ghost use Rattle.bd_message.specs.Messages.{IsMessage};
 
 use bd_keys::Bytes;
 use bd_message::Message;
 use std::alloc::{AllocError, Global};
+use std::test::Fail;
 
-/// The message of this name. A patch begins at offset 3, and the child of a `Goto` is 7.
-pub fn message(
-    alloc: Global,
-    name: &str,
-    first: &str,
-    second: &str,
-) -> Result<Message, AllocError> {
+/// The words of a text: a name, and two words, of which what isn't there is empty.
+fn words(text: &str) -> (&str, &str, &str) {
+    let mut words = text.split(' ');
+    let name = words.next().unwrap_or("");
+    let first = words.next().unwrap_or("");
+    let second = words.next().unwrap_or("");
+    (name, first, second)
+}
+
+/// The message of a text: its name, its key or prefix, and its value, where it begins or its source.
+/// A patch begins at offset 3, and the child of a `Goto` is 7.
+pub fn message(alloc: Global, text: &str) -> Result<Message, AllocError> {
+    let (name, first, second) = words(text);
     let first = Bytes::from_slice(alloc, first.as_bytes())?;
     let second = Bytes::from_slice(alloc, second.as_bytes())?;
     Ok(match name {
@@ -34,4 +44,16 @@ pub fn message(
             child: 7,
         },
     })
+}
+
+/// The message of a text, whose parts are as long as they may be.
+pub fn sent(alloc: Global, text: &str) -> Result<Message, Fail>
+    ensures { IfOk result IsMessage }
+{
+    let message = message(alloc, text)?;
+    if message.is_message() {
+        Ok(message)
+    } else {
+        Err(Fail::new("no such message"))
+    }
 }

@@ -6,13 +6,19 @@ use bd_message::{KeyMap, Message};
 use std::alloc::{AllocError, Global};
 use std::test::Fail;
 
-/// The message of this name. A patch begins at offset 3, and the child of a `Goto` is 7.
-pub fn message(
-    alloc: Global,
-    name: &str,
-    first: &str,
-    second: &str,
-) -> Result<Message, AllocError> {
+/// The three words of a text, of which what isn't there is empty.
+pub fn words(text: &str) -> (&str, &str, &str) {
+    let mut words = text.split(' ');
+    let first = words.next().unwrap_or("");
+    let second = words.next().unwrap_or("");
+    let third = words.next().unwrap_or("");
+    (first, second, third)
+}
+
+/// The message of a text: its name, its key or prefix, and its value, where it begins or its source.
+/// A patch begins at offset 3, and the child of a `Goto` is 7.
+pub fn message(alloc: Global, text: &str) -> Result<Message, AllocError> {
+    let (name, first, second) = words(text);
     let first = Bytes::from_slice(alloc, first.as_bytes())?;
     let second = Bytes::from_slice(alloc, second.as_bytes())?;
     Ok(match name {
