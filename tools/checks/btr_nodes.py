@@ -1,0 +1,204 @@
+"""Images of random nodes, read by tools/nodes.py, beside what each node has at each key by the definition: an edge's
+child at the changed key, and then the messages that the edge hasn't seen, one after the other."""
+import itertools
+import random
+
+from changes import Differences
+from nodes import BLOCK, CUT, DELETE, FIRST_SLOT, GOTO, PATCH, PUT, SLOT, SLOT_BLOCKS, Damaged, Image, Scan, after
+
+BYTES = (0, 1, 255)
+SLOTS = 40
+KEYS = [bytes(key) for size in range(5) for key in itertools.product(BYTES, repeat=size)]
+
+
+def random_key(rng, most=4):
+    return bytes(rng.choices(BYTES, k=rng.randrange(most + 1)))
+
+
+def random_value(rng):
+    return bytes(rng.choices((1, 2, 3), k=rng.randrange(1, 4)))
+
+
+def in_common(lo, hi):
+    """How many bytes all keys from one on, up to another one, have in common, at least."""
+    size = len(lo)
+    while size and (hi is None or after(lo[:size]) is None or hi > after(lo[:size])):
+        size -= 1
+    return size
+
+
+def random_message(rng, lower):
+    key = random_key(rng)
+    chance = rng.random()
+    if chance < 0.2 and lower:
+        return GOTO, key, random_key(rng, 3), rng.choice(lower)
+    if chance < 0.35:
+        return CUT, key, random_key(rng, 2)
+    if chance < 0.5:
+        return DELETE, key
+    if chance < 0.7:
+        return PATCH, key, rng.randrange(4), random_value(rng)
+    return PUT, key, random_value(rng)
+
+
+def random_node(rng, level, lower):
+    """Edges and messages, or entries, of a node over these ones of lower levels."""
+    if level == 0:
+        return {random_key(rng, 5): random_value(rng) for _ in range(rng.randrange(30))}
+    pivots = [b"", *sorted({random_key(rng) for _ in range(rng.randrange(6))} - {b""})]
+    messages = [random_message(rng, lower) for _ in range(rng.randrange(12))]
+    edges = []
+    for pivot, hi in zip(pivots, pivots[1:] + [None]):
+        child = rng.choice(lower + [0]) if lower else 0
+        source = random_key(rng, 3) if child else b""
+        edges.append((pivot, rng.randint(0, in_common(pivot, hi)), source, child, rng.randint(0, len(messages))))
+    return edges, messages
+
+
+class Plain:
+    """Random nodes by their ids, with their levels, the greatest id being the root's."""
+
+    def __init__(self, rng):
+        self.nodes, self.levels = {}, {}
+        for id_ in range(1, rng.randrange(3, 16)):
+            self.add(rng, id_, rng.randrange(4))
+        self.root = max(self.nodes) + 1
+        self.add(rng, self.root, 4)
+
+    def add(self, rng, id_, level):
+        lower = [it for it, of in self.levels.items() if of < level]
+        self.nodes[id_], self.levels[id_] = random_node(rng, level, lower), level
+
+    def at(self, id_, key):
+        """What the node of an id has at a key."""
+        node = self.nodes[id_]
+        if self.levels[id_] == 0:
+            return node.get(key)
+        edges, messages = node
+        _, lift, source, child, seen = [it for it in edges if it[0] <= key][-1]
+        value = self.at(child, source + key[lift:]) if child else None
+        for tag, of, *rest in messages[seen:]:
+            if tag == GOTO:
+                value = self.at(rest[1], rest[0] + key[len(of):]) if key.startswith(of) else value
+            elif tag == CUT:
+                value = None if key.startswith(of) and key[len(of):] >= rest[0] else value
+            elif key == of:
+                value = changed(value, tag, rest)
+        return value
+
+
+def changed(value, tag, rest):
+    if tag == PATCH:
+        offset, data = rest
+        value = (value or b"") + b"\0" * (offset - len(value or b""))
+        return value[:offset] + data + value[offset + len(data):]
+    return rest[0] if tag == PUT else None
+
+
+def prefixed(data):
+    return len(data).to_bytes(2, "big") + data
+
+
+def message_bytes(tag, key, *rest):
+    parts = [bytes([tag]), prefixed(key)]
+    for it in rest:
+        parts.append(prefixed(it) if isinstance(it, bytes) else it.to_bytes(8 if tag == GOTO else 2, "big"))
+    return b"".join(parts)
+
+
+def numbers(width, *all_):
+    return b"".join(it.to_bytes(width, "big") for it in all_)
+
+
+def node_bytes(level, node):
+    if level == 0:
+        entries = b"".join(prefixed(key) + prefixed(value) for key, value in sorted(node.items()))
+        return b"BDN1" + numbers(4, 0, len(node), 0) + entries
+    edges, messages = node
+    return b"BDN1" + numbers(4, level, len(edges), len(messages)) + b"".join(
+        prefixed(pivot) + numbers(2, lift) + prefixed(source) + numbers(8, child) + numbers(4, seen)
+        for pivot, lift, source, child, seen in edges) + b"".join(message_bytes(*it) for it in messages)
+
+
+def write_image(path, plain):
+    """An image of these nodes: node i stands in slot 2 i, and the table in slot 1."""
+    ids = sorted(plain.nodes)
+    table = b"BDTABLE1" + numbers(8, len(ids), plain.root + 1, plain.root)
+    parts = {0: b"\1", 1: b"BDSUPER1" + numbers(4, 2, SLOTS) + numbers(8, 7, 0) + numbers(4, 1, 1)}
+    for id_ in ids:
+        table += numbers(8, id_, 1) + numbers(4, 2 * id_, plain.levels[id_])
+        parts[FIRST_SLOT + 2 * id_ * SLOT_BLOCKS] = node_bytes(plain.levels[id_], plain.nodes[id_])
+    parts[FIRST_SLOT + SLOT_BLOCKS] = table
+    with open(path, "wb") as file:
+        for block, data in parts.items():
+            file.seek(block * BLOCK)
+            file.write(data)
+        file.truncate(FIRST_SLOT * BLOCK + SLOTS * SLOT)
+
+
+def drained(of):
+    """All that is given one after the other."""
+    found = []
+    while it := of.next():
+        found.append(it)
+    return found
+
+
+def check_values(image, plain, report, label):
+    """Each key's value is the definition's, looked up and scanned, from the first key on and from each later one."""
+    whole, root = image.whole(), plain.root
+    wrong = [key for key in KEYS if image.value(whole, key) != plain.at(root, key)]
+    report(f"{label}: values", not wrong, f"{wrong[:3]}")
+    scanned = drained(Scan(image, whole))
+    keys = [key for key, _ in scanned]
+    wrong = [key for key, value in scanned if plain.at(root, key) != value]
+    missing = [key for key in KEYS if plain.at(root, key) is not None and key not in set(keys)]
+    report(f"{label}: a scan", not wrong and not missing and keys == sorted(set(keys)), f"{wrong[:3]} {missing[:3]}")
+    for key in KEYS[:: len(KEYS) // 20]:
+        scan = Scan(image, whole)
+        scan.next()
+        scan.seek(key)
+        wanted = [it for it in scanned[1:] if it[0] >= key]
+        report(f"{label}: a scan from {key!r} on", drained(scan) == wanted)
+
+
+def check_differences(image, plain, report, label, rng):
+    """What differs below two prefixes is what differs by the definition."""
+    a, b = random_key(rng, 3), random_key(rng, 3)
+    found = drained(Differences(image, image.whole(a), image.whole(b)))
+    keys = [key for key, _, _ in found]
+    at = {key: (plain.at(plain.root, a + key), plain.at(plain.root, b + key)) for key in {*KEYS, *keys}}
+    wrong = [it for it in found if it[1:] != at[it[0]]]
+    missing = [key for key in KEYS if at[key][0] != at[key][1] and key not in set(keys)]
+    right = not wrong and not missing and keys == sorted(set(keys)) and all(old != new for _, old, new in found)
+    report(f"{label}: what differs below {a!r} and {b!r}", right, f"{wrong[:3]} {missing[:3]}")
+
+
+def check(program, room, report):
+    path = room / "image"
+    for seed in range(150):
+        rng = random.Random(seed)
+        plain = Plain(rng)
+        write_image(path, plain)
+        with Image(path) as image:
+            check_values(image, plain, report, f"seed {seed}")
+            for _ in range(4):
+                check_differences(image, plain, report, f"seed {seed}", rng)
+    check_damage(path, report)
+
+
+def check_damage(path, report):
+    """Bytes that are none of an image's are told by their block."""
+    whole = path.read_bytes()
+    cases = [(0, 0, b"\0", 0), (1, 0, b"X", 1), (1, 8, b"\xff", 1), (FIRST_SLOT + 16, 0, b"X", FIRST_SLOT + 16),
+             (FIRST_SLOT + 16, 51, b"\xff", FIRST_SLOT + 16), (FIRST_SLOT + 32, 0, b"X", FIRST_SLOT + 32)]
+    for block, at, data, named in cases:
+        place = block * BLOCK + at
+        path.write_bytes(whole[:place] + data + whole[place + len(data):])
+        try:
+            with Image(path) as image:
+                image.node(1)
+            told = None
+        except Damaged as damage:
+            told = damage.block
+        report(f"byte {at} of block {block}", told == named, f"block {told}")
