@@ -73,11 +73,11 @@ def want(image, path):
 
 
 def paths_below(image, path, depth, given):
-    """A path and those below it that are told, each after those above it."""
+    """A path and those below it that are told, each with whether it is a directory's and after those above it."""
     found, left = [], [(path, want(image, path), depth)]
     while left:
         path, record, depth = left.pop()
-        found.append(path)
+        found.append((path, record.is_dir))
         if record.is_dir and depth:
             inner = [(below(path, name), it, depth - 1) for name, it in children(image, path)
                      if (it.is_dir or given.all) and not convention.is_own(name)]
@@ -92,9 +92,11 @@ def du(session, given):
 
       own     bytes of keys, values and what waits, which nothing else shares
       shared  bytes that others share, as clones do
-      back    bytes of the slots that removing it would give back, and a reclaim after it: those of nodes that nothing
-              else asks. A node that has something of a neighbour too isn't given back
-      path    `(reclaim)` stands for what was removed and takes slots until a reclaim
+      back    bytes of the slots that removing it gives back, with a reclaim after it, but for a few; with a `-`
+              where that takes slots, since what others share is copied for it. A node that has something of a
+              neighbour isn't given back, nor one that what others share still names
+      path    `(reclaim)` stands for what a reclaim would give back now, and `(held)` for slots of nodes that no path
+              asks, and that are kept since nodes that are asked name them
 
       -a  files too
       -s  no directories below
@@ -112,10 +114,12 @@ def du(session, given):
 
 def print_usage(usage, path, given):
     told = [("own", "shared", "back", "path")]
-    told += [(*[sized(count, given.human) for count in (it.own, it.shared, it.slots * SLOT)], it.path)
+    told += [(*[sized(count, given.human) for count in (it.own, it.shared, it.back * SLOT)], it.path)
              for it in usage.labels.values()]
-    if path == b"/" and usage.wasted:
-        told.append(("0", "0", sized(usage.wasted * SLOT, given.human), "(reclaim)"))
+    if path == b"/" and usage.back:
+        told.append(("0", "0", sized(usage.back * SLOT, given.human), "(reclaim)"))
+    if path == b"/" and usage.held:
+        told.append((sized(usage.held * SLOT, given.human), "0", "0", "(held)"))
     print_rows(told)
 
 

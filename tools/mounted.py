@@ -77,18 +77,22 @@ class Mounted(fuse.Operations):
         self.tree = Tree(lines, (os.geteuid(), os.getegid()))
         self.failure = None
         self.written, self.listings, self.last_listing = set(), {}, 0
-        self.has_hidden, self.last_hidden, self.changed_at = False, 0, None
+        self.has_hidden, self.last_hidden, self.changed_at = False, time.time_ns(), None
 
     def check(self):
         """Begins the run, and empties what an earlier mount has left."""
         self.lines.look()
-        if self.lines.ask([b"remove " + HIDDEN])[0] == b"ok":
+        reply = self.lines.ask([b"remove " + HIDDEN])[0]
+        if reply == b"ok":
             self.lines.gives_back()
+        self.has_hidden = reply.startswith(b"full ")
         self.tree.know(self.tree.root)
 
     # ---- the run
 
     def patience(self):
+        if self.failure is not None:
+            return None
         if self.written or self.lines.unsent or self.lines.owed:
             return int(GIVE_AFTER * 1_000)
         if self.lines.is_changed or self.tree.noting:
@@ -136,7 +140,7 @@ class Mounted(fuse.Operations):
         self.tree.write_times()
         self.tree.tidy_times()
         if self.has_hidden:
-            self.lines.change(b"remove " + HIDDEN)
+            self.lines.ask([b"remove " + HIDDEN])
         self.lines.end()
 
     # ---- names
@@ -344,7 +348,7 @@ class Mounted(fuse.Operations):
             return
         path = self.tree.path(node)
         self.lines.post(path, b"chmod %s %04o" % (path, mode))
-        node.mode = mode
+        node.mode, node.is_bare = mode, False
         if node.mtime is None:
             node.mtime = 0
             self.tree.note(node)
@@ -608,7 +612,7 @@ class Mounted(fuse.Operations):
     def cloned(self, node, directory, name, image):
         """A node of which a clone was made."""
         new = type(node)(directory, name, image)
-        new.mode, new.mtime, new.ctime = node.mode, node.mtime, time.time_ns()
+        new.mode, new.is_bare, new.mtime, new.ctime = node.mode, node.is_bare, node.mtime, time.time_ns()
         self.tree.attach(new)
         if isinstance(node, File):
             new.kind, new.size, new.kept_size = node.kind, node.size, node.size

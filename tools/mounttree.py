@@ -28,16 +28,17 @@ GREATEST_ABSENT = 10_000
 
 class Node:
     """A directory, a file or a link: the directory in which it is, its name there on the host and in the image, and its
-    attributes. Its mode is None until it was asked for; its number is 0 as long as the kernel has none."""
+    attributes. Its mode is None until it was asked for, and a bare one isn't the image's, since that has neither a mode
+    nor a time; its number is 0 as long as the kernel has none."""
 
     __slots__ = ("number", "inode", "parent", "name", "image", "mode", "mtime", "ctime", "atime", "lookups", "place",
-                 "is_gone")
+                 "is_bare", "is_gone")
 
     def __init__(self, parent, name, image):
         self.parent, self.name, self.image = parent, name, image
         self.number = self.inode = self.lookups = self.place = 0
         self.mode = self.mtime = self.ctime = self.atime = None
-        self.is_gone = False
+        self.is_bare = self.is_gone = False
 
 
 class File(Node):
@@ -244,6 +245,7 @@ class Tree:
                     node.kind, node.mode = LINK, 0o777
                     continue
             node.mode = shown_mode(found, node.mtime is not None)
+            node.is_bare = node.mode != found.mode
 
     # ---- what is added and what goes
 
@@ -363,11 +365,23 @@ class Tree:
     # ---- times
 
     def note(self, node):
-        """A node whose time is to be written."""
+        """A node whose time is to be written. With a time it needs a mode, since 0000 is one then."""
         directory = node if isinstance(node, Directory) else node.parent
-        if directory is not None and not directory.is_gone:
-            directory.noted.add(node)
-            self.noting.add(directory)
+        if directory is None or directory.is_gone:
+            return
+        if node.is_bare:
+            self.clothe(node)
+        directory.noted.add(node)
+        self.noting.add(directory)
+
+    def clothe(self, node):
+        """Gives a bare node the mode that is shown of it."""
+        try:
+            path = self.path(node)
+            self.lines.post(path, b"chmod %s %04o" % (path, node.mode))
+            node.is_bare = False
+        except (Full, OSError):
+            pass  # It gets it the next time.
 
     def touch(self, node, now=None):
         """A node that was changed now."""

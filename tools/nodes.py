@@ -249,10 +249,10 @@ def entries(data, at, count):
     for _ in range(count):
         end = at + 2 + int.from_bytes(data[at : at + 2], "big")
         last = end + 2 + int.from_bytes(data[end : end + 2], "big")
+        if last > len(data):
+            raise Ended
         found.append((data[at + 2 : end], data[end + 2 : last]))
         at = last
-    if at > len(data):
-        raise Ended
     return found
 
 

@@ -6,6 +6,7 @@ from functools import lru_cache
 from typing import NamedTuple
 
 from nodes import BASE, SLOT, after, key_of, path_of
+from rehearsal import Rehearsal
 from session import Failed
 
 # A key above all that are stored.
@@ -76,12 +77,13 @@ def items(node):
 # ---- what each path takes
 
 class Label:
-    """A path that is told, or what is beside all of these, with what is asked for its keys."""
+    """A path that is told, or what is beside all of these: the bytes of its own and those that it shares, the slots of
+    nodes that nothing else asks, and those that removing it gives back."""
 
-    def __init__(self, path, above):
-        self.path, self.above = path, above
+    def __init__(self, path, above, is_dir=True):
+        self.path, self.above, self.is_dir = path, above, is_dir
         self.depth = 0 if above is None else above.depth + 1
-        self.own = self.shared = self.slots = 0
+        self.own = self.shared = self.slots = self.back = 0
 
     def line(self):
         """It and those above it, itself first."""
@@ -119,13 +121,13 @@ class Items:
 
 
 class Usage:
-    """What paths take of an image. `paths` are told, each after those above it; the first one is above all others."""
+    """What paths take of an image. `paths` are told, each with whether it is a directory's and after those above it."""
 
     def __init__(self, image, paths, progress=None):
         self.image, self.beside, self.labels = image, Label(None, None), {}
-        for path in paths:
+        for path, is_dir in paths:
             above = next((self.labels[it] for it in ancestors(path) if it in self.labels), self.beside)
-            self.labels[path] = Label(path, above)
+            self.labels[path] = Label(path, above, is_dir)
         self.items = lru_cache(MOST_ITEMS)(lambda id_: Items(image.node(id_)))
         self.tops, self.totals, self.runs = {}, {}, {}
         found = regions(self.labels, self.beside)
@@ -133,7 +135,7 @@ class Usage:
         self.known = set(self.tops)
         self._go([it for it in found if it[2] is self.beside], progress)
         self._count()
-        self.wasted = len(image.table) - len(self.tops)
+        self._rehearse()
 
     def _go(self, found, progress):
         for lo, hi, label in found:
@@ -169,6 +171,17 @@ class Usage:
         for label in reversed(self.labels.values()):
             label.above.own += label.own
             label.above.slots += label.slots
+
+
+    def _rehearse(self):
+        """Finds what a reclaim gives back now, which nodes that nothing asks it keeps, and how much more it gives back
+        after a removal of each path."""
+        now = Rehearsal(self.image).run()
+        self.back = len(self.image.table) - now.size
+        self.held = max(0, len(self.image.table) - len(self.tops) - max(0, self.back))
+        for path, label in self.labels.items():
+            if label.slots or label.is_dir and label.shared:
+                label.back = now.size - Rehearsal(self.image, now).remove(key_of(path)).run().size
 
 
 def told(runs):
@@ -314,10 +327,13 @@ class Sharing:
 
     def _share(self, owned, part, lo, hi):
         """Notes that a part asks for keys that were asked for before."""
-        first, second = stems(owned.outer, owned.inner, part.lo[: part.drop], part.source)
+        front = in_common(lo, hi)
+        first = owned.outer + front[len(owned.inner) :]
+        second = part.lo[: part.drop] + front[len(part.source) :]
+        front, (first, second) = second, stems(first, second)
         if first == second:
             return
-        below = in_common(part.lo, part.hi)[len(second) :]
+        below = whole_names(front)[len(second) :]
         known, nodes = self.found.setdefault((first, second), (below, set()))
         below = below if known == below else front_of(known, below)
         nodes.update(id_ for id_, _, _ in asked_nodes(self.image, part.child, lo, hi))
@@ -333,10 +349,8 @@ def leading(image, nodes):
     return found
 
 
-def stems(first, inner, second, other):
-    """The keys of the two paths below which the same keys are asked: `first` as `inner` and `second` as `other`."""
-    longest = max(inner, other, key=len)
-    first, second = first + longest[len(inner) :], second + longest[len(other) :]
+def stems(first, second):
+    """Two keys without the names in which both end."""
     same = 0
     while same < min(len(first), len(second)) and first[-1 - same] == second[-1 - same]:
         same += 1
@@ -355,11 +369,11 @@ def whole_names(key):
 
 
 def in_common(lo, hi):
-    """What all keys from one on, up to another one, begin with, in whole names."""
+    """What all keys from one on, up to another one, begin with."""
     size = len(lo)
-    while size and not (after(lo[:size]) is None and hi is None or hi is not None and hi <= (after(lo[:size]) or END)):
+    while size and hi > (after(lo[:size]) or END):
         size -= 1
-    return whole_names(lo[:size])
+    return lo[:size]
 
 
 def front_of(one, other):

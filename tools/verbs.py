@@ -74,6 +74,8 @@ def counted(count, one, more):
 
 def sized(count, is_human):
     """A number of bytes, in few digits where that is asked."""
+    if count < 0:
+        return "-" + sized(-count, is_human)
     if not is_human or count < 1_024:
         return str(count)
     at = 0

@@ -213,9 +213,19 @@ def clones(program, room, report):
                 os.copy_file_range(file.fileno(), to.fileno(), 1 << 30)
             report(f"a copy of {name} is the same", read(source / "copied") == read(source / name))
         before = tree(mount.path)
+        removed = os.open(source / "large", os.O_RDONLY)
+        os.unlink(source / "large")
+        os.setxattr(mount.path, CLONE, b"/whole")
+        os.close(removed)
+        del before["source/large"]
+        wrong = difference(before, tree(mount.path / "whole"))
+        report("a clone of all that is mounted", not wrong, wrong)
+        before = tree(mount.path)
     with Mount(program, room, "clones") as mount:
         wrong = difference(before, tree(mount.path))
         report("clones are there after another mount", not wrong, wrong)
+    listed = script(program, mount.image, ["list /", "list /whole"])
+    report("nothing that was hidden is left", ".betr-open" not in str(listed) and "whole/" in str(listed), str(listed))
 
 
 # ---- names, links, modes and times
@@ -287,8 +297,13 @@ def lines(program, room, report):
         report("modes of lines", found == ["0o40755", "0o40755", "0o100600", "0o100644"], str(found))
         os.chmod(mount.path / "d/b c", 0)
         report("a mode of nothing", os.stat(mount.path / "d/b c").st_mode == 0o100000)
+        write(mount.path / "d/new", b"new")
+        with open(mount.path / "d/100%", "ab") as file:
+            file.write(b"more")
     with Mount(program, room, "lines") as mount:
         report("a mode of nothing stays", os.stat(mount.path / "d/b c").st_mode == 0o100000)
+        found = [oct(os.stat(mount.path / name).st_mode) for name in (".", "d", "d/a", "d/100%")]
+        report("shown modes stay", found == ["0o40755", "0o40755", "0o100600", "0o100644"], str(found))
 
 
 # ---- a full image
@@ -319,11 +334,23 @@ def full(program, room, report):
 # ---- programs that nobody here wrote
 
 
+def repository(path, run):
+    """A repository of five commits on the host."""
+    path.mkdir()
+    run(path, "init", "-q")
+    for at in range(5):
+        for name in range(40):
+            (path / f"d{name % 7}").mkdir(exist_ok=True)
+            write(path / f"d{name % 7}/f{name}", f"{at} {name}\n".encode() * (name + 1) * 20)
+        run(path, "add", "-A")
+        run(path, "commit", "-qm", f"commit {at}")
+    return path
+
+
 def git(program, room, report):
     if not shutil.which("git"):
         report.skip("git", "there is no git")
         return
-    origin = room / "origin"
     environment = os.environ | {"GIT_CONFIG_NOSYSTEM": "1", "HOME": str(room)}
     for who in ("AUTHOR", "COMMITTER"):
         environment |= {f"GIT_{who}_NAME": "a", f"GIT_{who}_EMAIL": "a@b.c"}
@@ -331,14 +358,7 @@ def git(program, room, report):
     def run(folder, *given):
         return call(["git", *given], folder=folder, environment=environment)
 
-    origin.mkdir()
-    run(origin, "init", "-q")
-    for at in range(5):
-        for name in range(40):
-            (origin / f"d{name % 7}").mkdir(exist_ok=True)
-            write(origin / f"d{name % 7}/f{name}", f"{at} {name}\n".encode() * (name + 1) * 20)
-        run(origin, "add", "-A")
-        well(report, "a commit on the host", run(origin, "commit", "-qm", f"commit {at}"))
+    origin = repository(room / "origin", run)
     with Mount(program, room, "git") as mount:
         inner = mount.path / "cloned"
         if not well(report, "git clone", run(mount.path, "clone", "-q", origin, inner)):
