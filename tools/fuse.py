@@ -2,8 +2,7 @@
 that answers the kernel's requests from an object with a method for each. Nothing but Python is needed by root, and
 `fusermount3` (Debian's `fuse3`) by others.
 
-A method of `Operations` returns what is answered, or raises OSError with the number of what is told to the caller. One
-that can't answer yet returns LATER, and answers by `Request.reply` or `Request.fail` afterwards, from any thread.
+A method of `Operations` returns what is answered, or raises OSError with the number of what is told to the caller.
 """
 import ctypes
 import errno
@@ -20,7 +19,7 @@ import threading
 import time
 
 DEVICE = "/dev/fuse"
-MAJOR, MINOR, LEAST_MINOR = 7, 38, 23
+MAJOR, MINOR, LEAST_MINOR = 7, 44, 23
 ROOT = 1
 
 # The most bytes that one request writes, and that one reads.
@@ -67,10 +66,8 @@ WRITE_CLEARS_BITS, OPEN_CLEARS_BITS = 4, 1
 STILL_DONE = (INIT, FORGET, BATCH_FORGET, INTERRUPT, DESTROY)
 
 # What the kernel is told without being asked.
-INODE_CHANGED, NAME_CHANGED = 2, 3
-INODE_TOLD, NAME_TOLD = struct.Struct("=Qqq"), struct.Struct("=QII")
-
-LATER = object()
+INODE_CHANGED, NAMES_CHANGED, NAMES_CHANGED_MINOR = 2, 8, 44
+INODE_TOLD = struct.Struct("=Qqq")
 
 NOT_SUID, NOT_DEVICES, READ_ONLY = 2, 4, 1
 DETACH = 2
@@ -124,8 +121,8 @@ class Operations:
         print(f"mount: {type(failure).__name__}: {failure}", file=sys.stderr, flush=True)
         return errno.EIO
 
-    def begin(self):
-        """Is called once, when the kernel has begun."""
+    def begin(self, has_epochs):
+        """Is called once, when the kernel has begun: whether it can be told that names have changed."""
 
     def patience(self):
         """After how many milliseconds without a request `idle` is to be called, or None."""
@@ -220,7 +217,7 @@ class Server:
         except Exception as failure:  # One request that breaks off doesn't end the others.
             request.fail(self.operations.failed(failure))
         else:
-            if answer is not None and answer is not LATER:
+            if answer is not None:
                 request.reply(answer)
 
     def write(self, *parts):
@@ -242,10 +239,9 @@ class Server:
         """The kernel is to forget what it keeps of a file's attributes and pages, or of a directory's names."""
         self.tell(INODE_CHANGED, INODE_TOLD.pack(node, 0, 0))
 
-    def tell_name(self, directory, name):
-        """The kernel is to forget what it keeps of a name. This waits for who works in the directory, so a thread that
-        answers nobody has to call it."""
-        self.tell(NAME_CHANGED, NAME_TOLD.pack(directory, len(name), 0), name, b"\0")
+    def tell_names(self):
+        """The kernel is to ask for each name once more, where `begin` was told that it can do that."""
+        self.tell(NAMES_CHANGED)
 
     # ---- what each request has, and what its answer is
 
@@ -254,7 +250,7 @@ class Server:
         if major != MAJOR or minor < LEAST_MINOR:
             self.has_ended = True
             raise OSError(errno.EPROTO, "")
-        self.operations.begin()
+        self.operations.begin(minor >= NAMES_CHANGED_MINOR)
         return BEGUN.pack(MAJOR, min(MINOR, minor), min(ahead, GREATEST_WRITE), flags & WANTED, BACKGROUND, CONGESTED,
                           GREATEST_WRITE, 1, GREATEST_WRITE // PAGE, 0, 0)
 

@@ -9,7 +9,6 @@ import errno
 import os
 import stat as modes
 import sys
-import threading
 import time
 
 import fuse
@@ -78,6 +77,9 @@ class Mounted(fuse.Operations):
         self.failure = None
         self.written, self.listings, self.last_listing = set(), {}, 0
         self.has_hidden, self.last_hidden, self.changed_at = False, time.time_ns(), None
+
+    def begin(self, has_epochs):
+        self.tree.keeps_absent = has_epochs
 
     def check(self):
         """Begins the run, and empties what an earlier mount has left."""
@@ -590,7 +592,11 @@ class Mounted(fuse.Operations):
         if node is self.tree.root and self.has_hidden:
             self.lines.change(b"remove " + path + HIDDEN)
         self.cloned(node, directory, new, image)
-        return self.tell_clone(request, node, directory, new if is_absent else None)
+        if directory.number:
+            request.server.tell_inode(directory.number)
+        if is_absent:
+            request.server.tell_names()
+        return b""
 
     def clone_place(self, path):
         """The directory and the name that a path of the mount says."""
@@ -618,23 +624,3 @@ class Mounted(fuse.Operations):
             new.kind, new.size, new.kept_size = node.kind, node.size, node.size
             self.tree.note(new)
         self.tree.touch(directory)
-
-    def tell_clone(self, request, node, directory, name):
-        """Answers the one who cloned, once the kernel forgot that there was no such name. That waits for those who work
-        in the directory, and he is one of them where it is this that he cloned."""
-        if not directory.number:
-            return b""
-        request.server.tell_inode(directory.number)
-        if name is None:
-            return b""
-
-        def tell():
-            if directory is not node:
-                request.server.tell_name(directory.number, name)
-                request.reply()
-            else:
-                request.reply()
-                request.server.tell_name(directory.number, name)
-
-        threading.Thread(target=tell).start()
-        return fuse.LATER

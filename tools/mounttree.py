@@ -79,7 +79,7 @@ class Tree:
     def __init__(self, lines, owner):
         self.lines, self.owner = lines, owner
         self.root = Directory(None, b"", b"")
-        self.nodes, self.inodes, self.noting = {}, set(), set()
+        self.nodes, self.inodes, self.noting, self.keeps_absent = {}, set(), set(), False
         self.count, self.greatest, self.last_number = 0, GREATEST_COUNT, fuse.ROOT
         self.nodes[fuse.ROOT], self.root.number, self.root.lookups = self.root, fuse.ROOT, 1
         self.root.inode = fuse.ROOT
@@ -321,8 +321,8 @@ class Tree:
         return fuse.entry(node.number, self.attributes(node))
 
     def absent(self, directory, name):
-        """That a name isn't there, which the kernel keeps."""
-        if len(directory.absent) >= GREATEST_ABSENT:
+        """That a name isn't there, which the kernel keeps where it can be told that this has changed."""
+        if not self.keeps_absent or len(directory.absent) >= GREATEST_ABSENT:
             return fuse.no_entry(False)
         directory.absent.add(name)
         return fuse.no_entry()

@@ -183,7 +183,9 @@ class Node:
             return
         self.edges = [edge(head) for _ in range(count)]
         self.messages = [message(head) for _ in range(waiting)]
-        if not self.edges or self.edges[0].pivot:
+        rising = all(one.pivot < other.pivot for one, other in zip(self.edges, self.edges[1:]))
+        within = all(it.lift <= len(it.pivot) and it.seen <= waiting for it in self.edges)
+        if not self.edges or self.edges[0].pivot or not rising or not within:
             raise Ended
 
     @cached_property

@@ -2,9 +2,13 @@
 child at the changed key, and then the messages that the edge hasn't seen, one after the other."""
 import itertools
 import random
+from collections import Counter
 
 from changes import Differences
 from nodes import BLOCK, CUT, DELETE, FIRST_SLOT, GOTO, PATCH, PUT, SLOT, SLOT_BLOCKS, Damaged, Image, Scan, after
+from rehearsal import Rehearsal
+from session import Failed
+from sharing import Sharing, Usage
 
 BYTES = (0, 1, 255)
 SLOTS = 40
@@ -69,6 +73,15 @@ class Plain:
         lower = [it for it, of in self.levels.items() if of < level]
         self.nodes[id_], self.levels[id_] = random_node(rng, level, lower), level
 
+    def named(self):
+        """How often each node is named, and once more for the root."""
+        found = Counter([self.root])
+        for id_, node in self.nodes.items():
+            if self.levels[id_]:
+                found.update(child for _, _, _, child, _ in node[0] if child)
+                found.update(it[3] for it in node[1] if it[0] == GOTO)
+        return found
+
     def at(self, id_, key):
         """What the node of an id has at a key."""
         node = self.nodes[id_]
@@ -122,11 +135,11 @@ def node_bytes(level, node):
 
 def write_image(path, plain):
     """An image of these nodes: node i stands in slot 2 i, and the table in slot 1."""
-    ids = sorted(plain.nodes)
+    ids, named = sorted(plain.nodes), plain.named()
     table = b"BDTABLE1" + numbers(8, len(ids), plain.root + 1, plain.root)
     parts = {0: b"\1", 1: b"BDSUPER1" + numbers(4, 2, SLOTS) + numbers(8, 7, 0) + numbers(4, 1, 1)}
     for id_ in ids:
-        table += numbers(8, id_, 1) + numbers(4, 2 * id_, plain.levels[id_])
+        table += numbers(8, id_, named[id_]) + numbers(4, 2 * id_, plain.levels[id_])
         parts[FIRST_SLOT + 2 * id_ * SLOT_BLOCKS] = node_bytes(plain.levels[id_], plain.nodes[id_])
     parts[FIRST_SLOT + SLOT_BLOCKS] = table
     with open(path, "wb") as file:
@@ -184,7 +197,40 @@ def check(program, room, report):
             check_values(image, plain, report, f"seed {seed}")
             for _ in range(4):
                 check_differences(image, plain, report, f"seed {seed}", rng)
+        if seed % 10 == 0:
+            look_at_all(path)
+            check_bytes(path, report, rng, f"seed {seed}")
     check_damage(path, report)
+
+
+def look_at_all(path):
+    """Everything that looks into nodes."""
+    with Image(path) as image:
+        drained(Scan(image, image.whole()))
+        drained(Differences(image, image.whole(b"\1"), image.whole(b"")))
+        Usage(image, [(b"/", True)])
+        Sharing(image).pairs()
+        Rehearsal(image).run()
+
+
+def check_bytes(path, report, rng, label):
+    """Images with other bytes are looked at to an end, or are told to be damaged."""
+    whole = path.read_bytes()
+    with Image(path) as image:
+        blocks = [1, image.block_of(1)] + [image.block_of(it.slot) for it in image.table.values()]
+    for _ in range(40):
+        place = rng.choice(blocks) * BLOCK + rng.choice([rng.randrange(64), rng.randrange(400)])
+        data = bytes(rng.choices([0, 1, 2, 255], k=rng.choice([1, 1, 2, 8])))
+        path.write_bytes(whole[:place] + data + whole[place + len(data):])
+        try:
+            look_at_all(path)
+            why = ""
+        except Failed:
+            why = ""
+        except Exception as error:
+            why = f"{data!r} at {place}: {type(error).__name__} {error}"
+        report(f"{label}: other bytes", not why, why)
+    path.write_bytes(whole)
 
 
 def check_damage(path, report):

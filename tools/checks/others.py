@@ -1,4 +1,4 @@
-"""The tools that are for those who work on the program: each does what it says, `bench` apart, which takes minutes."""
+"""The tools that are for those who work on the program: each does what it says."""
 import hashlib
 import re
 
@@ -59,8 +59,24 @@ def measuring(program, room, report):
         report(f"plant {words}", ended.status == 0 and not ended.err, str(ended))
 
 
+def benching(program, room, report):
+    """`bench` prints its table, and puts plots where they are wanted."""
+    if is_slow(program):
+        report.skip("bench", "the program isn't proved, and it would take too long")
+        return
+    (room / "plots").mkdir()
+    ended = tool("bench", "--program", program, "--folder", room, room / "plots")
+    rows = re.findall(r"^\| [^|]+ \| [\d,]+ (us|MB)? ?\|$", ended.out, re.MULTILINE)
+    report("bench", ended.status == 0 and len(rows) > 12, str(ended))
+    for name in ("clones.svg", "writes.svg"):
+        file = room / "plots" / name
+        drawn = file.exists() and file.read_text().rstrip().endswith("</svg>")
+        report(f"bench draws {name}", drawn, "it isn't drawn")
+
+
 def check(program, room, report):
     comparing(program, room, report)
     filling(program, room, report)
     generated(room, report)
     measuring(program, room, report)
+    benching(program, room, report)
