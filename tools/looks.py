@@ -94,7 +94,8 @@ def du(session, given):
       shared  bytes that others share, as clones do
       back    bytes of the slots that removing it gives back, with a reclaim after it, but for a few; with a `-`
               where that takes slots, since what others share is copied for it. A node that has something of a
-              neighbour isn't given back, nor one that what others share still names
+              neighbour isn't given back, nor one that what others share still names. It is looked for at the 100
+              largest paths that are told, and `?` stands for the others
       path    `(reclaim)` stands for what a reclaim would give back now, and `(held)` for slots of nodes that no path
               asks, and that are kept since nodes that are asked name them
 
@@ -114,8 +115,9 @@ def du(session, given):
 
 def print_usage(usage, path, given):
     told = [("own", "shared", "back", "path")]
-    told += [(*[sized(count, given.human) for count in (it.own, it.shared, it.back * SLOT)], it.path)
-             for it in usage.labels.values()]
+    for it in usage.labels.values():
+        back = "?" if it.back is None else sized(it.back * SLOT, given.human)
+        told.append((sized(it.own, given.human), sized(it.shared, given.human), back, it.path))
     if path == b"/" and usage.back:
         told.append(("0", "0", sized(usage.back * SLOT, given.human), "(reclaim)"))
     if path == b"/" and usage.held:

@@ -1,4 +1,5 @@
-"""What a `reclaim` would free: its changes are rehearsed on the nodes of an image, of which only edges, Gotos and Cuts count.
+"""What a `reclaim` would free: its changes are rehearsed on the nodes of an image, of which only edges, Gotos and Cuts
+count.
 
 A rehearsal goes over the root and each node that one edge of such a node names and nothing else. An edge all of whose
 keys a Cut decides loses its child, and one that a Goto decides asks the Goto's node. Another Cut goes down its edge,
@@ -6,12 +7,30 @@ with what waits before it: into a child that nothing else names, and else into a
 more goes. Splits of nodes and the bytes that one step moves aren't rehearsed, so the number may be off by a few.
 """
 from bisect import bisect_left, bisect_right
+from collections import Counter
 from itertools import accumulate
+from typing import NamedTuple, Optional
 
 from nodes import CUT, GOTO, Edge, Message, after, is_before
 
 # As many steps at most, as the program makes pushes.
 MOST_STEPS = 4_096
+class Cover(NamedTuple):
+    """A Cut or a Goto that waits, with the first key that it decides and where those end."""
+
+    begin: bytes
+    end: Optional[bytes]
+    message: Message
+
+    @property
+    def is_cut(self):
+        return self.message.tag == CUT
+
+
+def cover_of(message):
+    return Cover(*message.keys(), message)
+
+
 class Shape:
     """The edges of a node and the Gotos and Cuts that wait in it, and whether other messages wait there too. It isn't
     changed."""
@@ -26,27 +45,25 @@ class Shape:
 
     def edges_of(self, cover):
         """The first edge that has keys of a Goto or a Cut, and the one after the last."""
-        begin, end = cover.keys()
-        last = len(self.pivots) if end is None else bisect_left(self.pivots, end)
-        return max(bisect_right(self.pivots, begin) - 1, 0), last
+        last = len(self.pivots) if cover.end is None else bisect_left(self.pivots, cover.end)
+        return max(bisect_right(self.pivots, cover.begin) - 1, 0), last
 
     def decided(self, cover):
         """The first edge all of whose keys a Goto or a Cut decides, and the one after the last."""
-        begin, end = cover.keys()
         first, last = self.edges_of(cover)
-        first += first < last and self.pivots[first] < begin
-        last -= first < last and end is not None and self.end(last - 1) != end
+        first += first < last and self.pivots[first] < cover.begin
+        last -= first < last and cover.end is not None and self.end(last - 1) != cover.end
         return first, last
 
     def waiting(self, at, places):
         """Those of these edges for which what stands at a place waits."""
         return [place for place in range(*places) if self.edges[place].seen <= at]
 
-    def newest(self, tag):
+    def newest(self, is_cut):
         """The newest Cut, or Goto, that decides all keys of an edge for which it waits: the first such edge, and the
         place of the message. None where there is none."""
         for at in reversed(range(len(self.covers))):
-            if self.covers[at].tag == tag:
+            if self.covers[at].is_cut == is_cut:
                 found = self.waiting(at, self.decided(self.covers[at]))
                 if found:
                     return found[0], at
@@ -54,7 +71,7 @@ class Shape:
 
     def first_cut(self):
         """The first edge for which a Cut waits, or None."""
-        cuts = [at for at, it in enumerate(self.covers) if it.tag == CUT]
+        cuts = [at for at, it in enumerate(self.covers) if it.is_cut]
         found = [place for at in cuts for place in self.waiting(at, self.edges_of(self.covers[at]))[:1]]
         return min(found, default=None)
 
@@ -68,7 +85,9 @@ class Shape:
         return found
 
     def names(self):
-        return [it.child for it in self.edges if it.child] + [it.child for it in self.covers if it.tag == GOTO]
+        """How often it names each node."""
+        return Counter([it.child for it in self.edges if it.child] +
+                       [it.message.child for it in self.covers if not it.is_cut])
 
     def changed(self, edges=None, covers=None, has_more=None):
         """It with other parts, without what waits for no edge."""
@@ -84,11 +103,16 @@ def shape_of(node):
     is_cover = [it.tag in (CUT, GOTO) for it in node.messages]
     before = [0, *accumulate(is_cover)]
     return Shape([it._replace(seen=before[it.seen]) for it in node.edges],
-                 [it for it, is_one in zip(node.messages, is_cover) if is_one], before[-1] < len(is_cover))
+                 [cover_of(it) for it, is_one in zip(node.messages, is_cover) if is_one], before[-1] < len(is_cover))
 
 
 def freed(cover, prefix):
     """A Cut or a Goto, of the keys that begin with a prefix and without it, or None."""
+    found = freed_message(cover.message, prefix)
+    return None if found is None else cover_of(found)
+
+
+def freed_message(cover, prefix):
     if cover.key.startswith(prefix):
         return cover._replace(key=cover.key[len(prefix) :])
     if not prefix.startswith(cover.key):
@@ -133,38 +157,39 @@ class Rehearsal:
 
     # Changes.
 
-    def name(self, id_):
-        self.counts[id_] = self.count(id_) + 1
+    def name(self, id_, times=1):
+        self.counts[id_] = self.count(id_) + times
 
-    def drop(self, id_):
-        """Names a node once less, and lets it go where nothing names it."""
-        left = [id_]
+    def drop(self, id_, times=1):
+        """Names a node so often less, and lets it go where nothing names it."""
+        left = [(id_, times)]
         while left:
-            id_ = left.pop()
-            count = self.counts[id_] = self.count(id_) - 1
+            id_, times = left.pop()
+            count = self.counts[id_] = self.count(id_) - times
             if count == 0:
                 self.size -= 1
-                left += self.shape(id_).names() if self.level(id_) else []
+                left += self.shape(id_).names().items() if self.level(id_) else []
             elif count == 1 and self.level(id_):
                 self.is_more = True
 
-    def put(self, id_, shape):
+    def put(self, id_, new):
         """Changes a node."""
-        old, new = self.shape(id_), shape
-        for name in new.names():
-            self.name(name)
+        old, now = self.shape(id_).names(), new.names()
+        differing = {name for name, _ in old.items() ^ now.items()}
+        for name in differing:
+            self.name(name, max(0, now[name] - old[name]))
         self.shapes[id_] = new
         self.changed.add(id_)
-        for name in old.names():
-            self.drop(name)
+        for name in differing:
+            self.drop(name, max(0, old[name] - now[name]))
 
     def make(self, level, shape):
         """A new node, which nothing names yet."""
         id_, self.next = self.next, self.next + 1
         self.counts[id_], self.levels[id_], self.size = 0, level, self.size + 1
         self.shapes[id_] = shape
-        for name in shape.names():
-            self.name(name)
+        for name, times in shape.names().items():
+            self.name(name, times)
         return id_
 
     # The walk.
@@ -180,7 +205,7 @@ class Rehearsal:
     def remove(self, key):
         """Puts the Cut of a removal into the root, or where there is no key that of all that `/` has."""
         root, cut = self.shape(self.root), Message(CUT, key, b"" if key else b"\x01")
-        self.put(self.root, root.changed(covers=root.covers + [cut]))
+        self.put(self.root, root.changed(covers=root.covers + [cover_of(cut)]))
         return self
 
     def walk(self, among):
@@ -215,8 +240,8 @@ class Rehearsal:
         shape = self.shape(id_)
         if not shape.covers:
             return False
-        for tag, change in ((CUT, self.cut), (GOTO, self.redirect)):
-            found = shape.newest(tag)
+        for is_cut, change in ((True, self.cut), (False, self.redirect)):
+            found = shape.newest(is_cut)
             if found is not None:
                 self.put(id_, change(shape, *found))
                 return True
@@ -234,8 +259,8 @@ class Rehearsal:
     @staticmethod
     def redirect(shape, place, at):
         """A Goto decides all keys of an edge, and of neighbours."""
-        goto, last = shape.covers[at], place + 1
-        while last < shape.decided(goto)[1] and shape.edges[last].seen <= at:
+        goto, last = shape.covers[at].message, place + 1
+        while last < shape.decided(shape.covers[at])[1] and shape.edges[last].seen <= at:
             last += 1
         edge = Edge(shape.edges[place].pivot, len(goto.key), goto.data, goto.child, at + 1)
         return shape.changed(shape.edges[:place] + [edge] + shape.edges[last:])
@@ -263,11 +288,10 @@ class Rehearsal:
 
     def is_held(self, cover, edge, hi):
         """Whether a Goto may not go down an edge."""
-        if cover.tag != GOTO:
+        if cover.is_cut:
             return False
-        begin, end = cover.keys()
-        lies_within = begin >= edge.pivot and (hi is None or (end is not None and end <= hi))
-        return not edge.child or self.level(cover.child) >= self.level(edge.child) or not lies_within
+        lies_within = cover.begin >= edge.pivot and (hi is None or (cover.end is not None and cover.end <= hi))
+        return not edge.child or self.level(cover.message.child) >= self.level(edge.child) or not lies_within
 
     def copy(self, edge):
         """What a copy of an edge's child has: what is asked of it, without the source."""
@@ -291,9 +315,7 @@ def replaced(edges, place, new):
 
 def carved(shape, at):
     """A node in which the keys of a Goto have edges of their own, as far as their edges haven't seen it."""
-    goto = shape.covers[at]
-    begin, end = goto.keys()
-    edges = shape.edges
+    (begin, end, goto), edges = shape.covers[at], shape.edges
     for key in (begin, end):
         edges = parted(edges, key, at) if key is not None else edges
     found, is_own = [], False

@@ -13,6 +13,8 @@ from session import Failed
 END = b"\xff" * 1_024
 # As many nodes' items stay in memory as were last looked at.
 MOST_ITEMS = 256
+# The removals of as many paths are rehearsed, those of the largest.
+MOST_REHEARSED = 100
 # As many ways to nodes are looked at before it is given up.
 MOST_WAYS = 1_000_000
 
@@ -41,8 +43,8 @@ class Spans:
 
 
 def asked_nodes(image, id_, lo, hi):
-    """The nodes that are asked where one is asked for the keys from one on up to another one, each with the keys, none of
-    which comes twice. A node that is named once is asked for a key once, where the one that names it is."""
+    """The nodes that are asked where one is asked for the keys from one on up to another one, each with the keys, none
+    of which comes twice. A node that is named once is asked for a key once, where the one that names it is."""
     left, known = [(id_, lo, hi)], {}
     while left:
         id_, lo, hi = left.pop()
@@ -135,7 +137,7 @@ class Usage:
         self.known = set(self.tops)
         self._go([it for it in found if it[2] is self.beside], progress)
         self._count()
-        self._rehearse()
+        self._rehearse(progress)
 
     def _go(self, found, progress):
         for lo, hi, label in found:
@@ -173,15 +175,21 @@ class Usage:
             label.above.slots += label.slots
 
 
-    def _rehearse(self):
+    def _rehearse(self, progress):
         """Finds what a reclaim gives back now, which nodes that nothing asks it keeps, and how much more it gives back
         after a removal of each path."""
         now = Rehearsal(self.image).run()
         self.back = len(self.image.table) - now.size
         self.held = max(0, len(self.image.table) - len(self.tops) - max(0, self.back))
-        for path, label in self.labels.items():
-            if label.slots or label.is_dir and label.shared:
-                label.back = now.size - Rehearsal(self.image, now).remove(key_of(path)).run().size
+        asked = [it for it in self.labels.values() if it.slots or it.is_dir and it.shared]
+        asked.sort(key=lambda it: (it.slots, it.own, it.shared), reverse=True)
+        for done, label in enumerate(asked):
+            if done < MOST_REHEARSED:
+                label.back = now.size - Rehearsal(self.image, now).remove(key_of(label.path)).run().size
+            else:
+                label.back = None
+            if progress:
+                progress.tell(done, min(MOST_REHEARSED, len(asked)))
 
 
 def told(runs):

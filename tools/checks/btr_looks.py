@@ -219,7 +219,8 @@ def taken(bench, *words):
     """What `btr du` tells, by path."""
     ended = bench.call("du", *words)
     rows = [line.split() for line in ended.out.splitlines()[1:]]
-    return {row[3]: SimpleNamespace(own=int(row[0]), shared=int(row[1]), back=int(row[2]) // SLOT) for row in rows}
+    return {path: SimpleNamespace(own=int(own), shared=int(shared), back=None if back == "?" else int(back) // SLOT)
+            for own, shared, back, path in rows}
 
 
 def directory(rng, top, count, pieces):
