@@ -1,16 +1,15 @@
 -- The lines of a generated load are short.
-use Rattle.std.proofs.Common.{◌≡◌, ℕ, zero, suc, ◌+◌, ◌-◌, ◌*◌, ◌^◌, ◌<◌, ◌≤◌, ◌⊎◌, inl, inr, Bool, true, false, cond, List, [], ◌∷◌, ◌++◌, length, refl, sym, ap, ◌∙◌, length-append, arith}
+use Rattle.std.proofs.Common.{◌≡◌, ℕ, ◌-◌, ◌*◌, ◌<◌, ◌≤◌, Bool, true, false, cond, ◌++◌, length, refl, length-append, arith}
 use Rattle.std.specs.Prelude.{codes, nat_lt, replicate}
 use Rattle.std.specs.Fmt.{decimal}
 use Rattle.std.proofs.lemmas.Fmt.{length-decimal-le}
 use Rattle.std.proofs.lemmas.List.{length-replicate}
 use borrow.Author.Tests.{ltb-true}
-use Rattle.hex.specs.Hex.{encode_lower}
 use Rattle.hex.proofs.HexLemmas.{length-encode_with}
 use Rattle.bd_script.specs.declared.generated.DrawnLine.{DrawnLine}
 use Rattle.bd_script.specs.declared.generated.Kind.{Kind}
 use Rattle.bd_script.specs.declared.generated.Kind.TheVariants.{CreateFile, WriteFile, TruncateFile, RemoveFile, CloneFile, CloneDir, RemoveClone, ReadFile}
-use Rattle.bd_script.specs.Generated.{directories, drawn_line, dir_clone_path, dir_path, file_clone_path, file_path, generated_line, line_from, line_text, state_after, text_of_kind, written_text}
+use Rattle.bd_script.specs.Generated.{drawn_line, generated_line, line_from, line_text, state_after, text_of_kind}
 
 decimal_short : (n : ℕ) → n < 4096 → length (decimal n) ≤ 4
 decimal_short n h = length-decimal-le 4 n (omega arith) (omega arith) (omega arith)

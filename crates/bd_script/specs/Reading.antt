@@ -1,5 +1,6 @@
 -- How what was read of a line, or of a word, stands to its meaning.
-use Rattle.std.specs.Prelude.{◌≡◌, ℕ, List, map, IsTrue, is_ok, IfOk}
+use Rattle.std.specs.Prelude.{◌≡◌, ◌⊎◌, ◌<◌, ℕ, false, List, length, map, IsTrue, is_ok, IfOk}
+use Rattle.std.specs.List.{list_any}
 use Rattle.std.specs.Borrow.{Bor}
 use Rattle.std.specs.declared.result.Result.{Result}
 use Rattle.std.specs.declared.result.Result.TheVariants.{Ok, Err}
@@ -8,7 +9,7 @@ use Rattle.bd_command.specs.declared.refusal.Refusal.{Refusal}
 use Rattle.bd_command.specs.declared.refusal.Refusal.TheVariants as refusal
 use Rattle.bd_names.specs.declared.fault.PathFault.{PathFault}
 use Rattle.bd_names.specs.declared.fault.PathFault.TheVariants as path_fault
-use Rattle.bd_script.specs.Lines.{Path, PathPair, LineMeaning, IsLine}
+use Rattle.bd_script.specs.Lines.{Path, PathPair, LineMeaning, IsLine, is_empty}
 use Rattle.bd_script.specs.declared.line.Line.{Line}
 use Rattle.bd_script.specs.declared.line.LineFault.{LineFault}
 use Rattle.bd_script.specs.declared.line.LineFault.TheVariants.{BadLine, BadPath, NoMemory}
@@ -16,6 +17,18 @@ use Rattle.bd_script.specs.declared.line.LineFault.TheVariants.{BadLine, BadPath
 -- the bytes of words that lie in a line
 abbrev pub texts : List (Bor (List ℕ)) → List (List ℕ)
 texts words = map (λ word. word.now) words
+
+-- the most words of a line
+abbrev pub word_limit : ℕ
+word_limit = 4
+
+-- a line isn't cut into these words, since one of them is empty, or they are too many
+abbrev pub AreUncut : List (List ℕ) → Type 0
+AreUncut words = IsTrue (list_any is_empty words) ⊎ (word_limit < length words)
+
+-- it is cut into these, none of which is empty
+abbrev pub IsCutInto : List (List ℕ) → List (List ℕ) → Type 0
+IsCutInto words cut = (cut ≡ words) × (list_any is_empty words ≡ false)
 
 -- something is read as what its words mean; only what isn't refused can be short of memory
 abbrev pub IsReadAs : {A : Type 0} → Result A LineFault → Result A Refusal → Type 0

@@ -11,6 +11,8 @@ use Rattle.bd_command.specs.declared.reply.Listed.{Listed}
 use Rattle.bd_command.specs.declared.reply.Listing.{Listing}
 use Rattle.bd_command.specs.declared.reply.Reply.{Reply}
 use Rattle.bd_command.specs.declared.reply.Reply.TheVariants.{Done, Bytes, Dir, File, Names, Refused}
+use Rattle.bd_script.specs.declared.denial.Denial.{Denial}
+use Rattle.bd_script.specs.declared.denial.Denial.TheVariants.{NoHandle, Gone, HandlesFull, LongPath, BadStream}
 use Rattle.bd_script.specs.declared.replies.LineReply.{LineReply}
 use Rattle.bd_script.specs.declared.replies.LineReply.TheVariants.{Command, Unread, Walk, Done as Made, Free, Full, Stopped}
 
@@ -26,6 +28,14 @@ refusal_text Root = codes "7 root"
 refusal_text TooBig = codes "8 too-big"
 refusal_text BadPath = codes "9 bad-path"
 refusal_text BadLine = codes "10 bad-line"
+
+-- the number and the name of a denial
+abbrev pub denial_text : Denial → List ℕ
+denial_text NoHandle = codes "11 no-handle"
+denial_text Gone = codes "12 gone"
+denial_text HandlesFull = codes "13 handles-full"
+denial_text LongPath = codes "14 long-path"
+denial_text BadStream = codes "15 bad-stream"
 
 -- the text of a refused line
 abbrev pub no_text : Refusal → List ℕ

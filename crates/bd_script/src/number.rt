@@ -7,7 +7,7 @@ ghost use Rattle.bd_limits.specs.Limits.{mode_limit, write_limit};
 use bd_limits::MAX_WRITE;
 
 /// The number that a word is: `0`, or digits without a leading zero, up to 4,294,967,295.
-pub(crate) fn read_number(word: &[u8]) -> Option<u32>
+pub fn read_number(word: &[u8]) -> Option<u32>
     ensures { result ≡ number_of word.now }
 {
     if word.is_empty() || (word.len() > 1 && word[0] == b'0') {
@@ -62,7 +62,7 @@ fn is_octal(digit: u8) -> bool
 
 /// Writes the bytes that a word encodes in hex digits at the front of `into`, and returns how many
 /// they are, 1 to 2,048.
-pub(crate) fn read_hex(word: &[u8], into: &mut [u8; MAX_WRITE]) -> Option<usize>
+pub fn read_hex(word: &[u8], into: &mut [u8; MAX_WRITE]) -> Option<usize>
     ensures { MatchOption result (hex_of word.now ≡ None)
         (λ len. (len ≤ write_limit) × (hex_of word.now ≡ Some (take len into.new))) }
 {

@@ -197,8 +197,8 @@ fn two_paths(alloc: Global, words: &[&[u8]]) -> Result<(Path, Path), LineFault>
     Ok((first, second))
 }
 
-/// Reads a path.
-fn read_path(alloc: Global, word: &[u8]) -> Result<Path, LineFault>
+/// Reads a word that has to be a path. A refused one takes no memory.
+pub fn read_path(alloc: Global, word: &[u8]) -> Result<Path, LineFault>
     ensures { IsPathRead result (path_in word.now) }
 {
     Ok(Path::read(alloc, word)?)

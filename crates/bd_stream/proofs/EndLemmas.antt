@@ -28,7 +28,7 @@ use Rattle.bd_stream.proofs.ValueLemmas.{weight, place, place_names, place_insid
 
 -- ---- names that rise above one
 
-unfoldable Rise : Name → List Name → Type 0
+unfoldable pub Rise : Name → List Name → Type 0
 Rise m [] = Unit {0}
 Rise m (n ∷ ns) = (is_name n ≡ true) × (is_lt (name_cmp m n) ≡ true) × Rise n ns
 
@@ -66,14 +66,14 @@ names_rise m (Names l) names e = rise_by m l (is_count l.more (length l.names) &
 names_rise m (Refused refusal) names e = cc
 
 -- the names that are known rise above the last one of the path
-RiseAfter : Option Name → List Name → Type 0
+pub RiseAfter : Option Name → List Name → Type 0
 RiseAfter None names = names ≡ []
 RiseAfter (Some m) names = Rise m names
 
 -- ---- what is left
 
 -- a number that is less where the place is higher, or where it is the same and the rank is less
-amount : ℕ → ℕ → ℕ
+pub amount : ℕ → ℕ → ℕ
 amount p rank = suc ((weight 513 - p) * (file_limit + 2) + rank)
 
 by_place : (w c p q r s : ℕ) → p < q → q ≤ w → s < c → suc ((w - q) * c + s) < suc ((w - p) * c + r)
@@ -87,7 +87,7 @@ lower_rank : (p r s : ℕ) → s < r → amount p s < amount p r
 unfolding amount
 lower_rank p r s h = omega arith
 
-measure_in : Stage → Path → ℕ
+pub measure_in : Stage → Path → ℕ
 measure_in Look below = amount (place below 0) (file_limit + 1)
 measure_in (Piece off left) below = amount (place below 0) left
 measure_in Inside below = amount (place below 0) 0
@@ -96,12 +96,12 @@ measure_in Whole below = 0
 measure_in Absent below = 0
 measure_in Overlong below = 0
 
-measure : Export → ℕ
+pub measure : Export → ℕ
 measure s = measure_in s.stage s.below
 
 -- ---- fair exports
 
-FairIn : Stage → Export → Type 0
+pub FairIn : Stage → Export → Type 0
 FairIn Look s = RiseAfter (last_name s.below) s.names
 FairIn (Piece off left) s = (1 ≤ left) × (left ≤ file_limit) × RiseAfter (last_name s.below) s.names
 FairIn Inside s = Unit {0}
@@ -110,12 +110,12 @@ FairIn Whole s = Unit {0}
 FairIn Absent s = Unit {0}
 FairIn Overlong s = Unit {0}
 
-record IsFair (s : Export) : Type 0 where
+pub record IsFair (s : Export) : Type 0 where
   pub short : IsShortPath s.below
   pub stage : FairIn s.stage s
 
 -- it is fair, and less is left than so much
-record Falls (most : ℕ) (m : Move) : Type 0 where
+pub record Falls (most : ℕ) (m : Move) : Type 0 where
   pub fair : IsFair m.0
   pub fewer : measure m.0 < most
 
@@ -282,7 +282,7 @@ beside_falls s r short (Some d) above =
 
 -- ---- an answer
 
-answer_in : (stage : Stage) (s : Export) (r : Reply) (c : Command) → FairIn stage s → IsShortPath s.below → asked_in stage s ≡ Some c → Falls (measure_in stage s.below) (answered_in stage s r)
+pub answer_in : (stage : Stage) (s : Export) (r : Reply) (c : Command) → FairIn stage s → IsShortPath s.below → asked_in stage s ≡ Some c → Falls (measure_in stage s.below) (answered_in stage s r)
 unfolding measure_in FairIn
 answer_in Look s r c fair short ask = look_falls s (head_in s.below r) (head_len s.below r) short fair
 answer_in (Piece off left) s r c fair short ask = piece_falls s off left (piece_in (piece_size left) r) (piece_count (piece_size left) r) short fair.0 fair.1 fair.2
@@ -291,6 +291,11 @@ answer_in Beside s r c fair short ask = beside_falls s r short (parent_of s.belo
 answer_in Whole s r c fair short ask = cc
 answer_in Absent s r c fair short ask = cc
 answer_in Overlong s r c fair short ask = cc
+
+-- so each answer to what is asked leaves a fair export of which less is left
+pub answers_fall : (s : Export) (r : Reply) (c : Command) → IsFair s → asked s ≡ Some c → Falls (measure s) (answered s r)
+unfolding measure
+answers_fall s r c fair ask = answer_in s.stage s r c fair.stage fair.short ask
 
 -- where nothing is asked, nothing is asked later
 no_more : (stage : Stage) (s : Export) (r : Reply) → asked_in stage s ≡ None → asked (answered_in stage s r).0 ≡ None
@@ -337,7 +342,7 @@ ends_within (suc n) replies s fair h = by (asked s) refl (λ c ask. answer_in s.
         fewer_of : (m : Move) (most : ℕ) → Falls most m → measure_in m.0.stage m.0.below < most
         fewer_of m most f = f.fewer
 
-begin_fair : (top : Path) → IsFair (begin top)
+pub begin_fair : (top : Path) → IsFair (begin top)
 unfolding FairIn RiseAfter
 begin_fair top = record { short = (refl, omega arith); stage = refl }
 

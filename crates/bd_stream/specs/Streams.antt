@@ -15,6 +15,10 @@ use Rattle.bd_stream.specs.declared.machine.Phase.TheVariants.{First, Next}
 use Rattle.bd_stream.specs.Heads.{IsHead, head_bytes}
 use Rattle.bd_stream.specs.Importing.{magic, head_commands, is_in_order}
 
+-- the limit of a stream's bytes, where it is taken from outside
+abbrev pub stream_limit : ℕ
+stream_limit = 4294967296
+
 -- how long a file is; a directory has no length
 abbrev pub len_of : Entry → Option ℕ
 len_of (Directory mode) = None

@@ -20,9 +20,16 @@ ghost use Rattle.bd_stream.specs.declared.head.Head.{Head};
 ghost use Rattle.bd_stream.specs.declared.machine.Phase.TheVariants.{Bad, Long, Ended};
 ghost use Rattle.bd_stream.specs.Heads.{IsHead, head_of, head_bytes, head_size, is_kind};
 ghost use Rattle.bd_stream.specs.Within.{AreBytes, IsWell};
-ghost use Rattle.bd_stream.specs.Streams.{IsStreamFor, stream_bytes, stream_of, entries_at, entry_commands};
+ghost use Rattle.bd_stream.specs.Streams.{IsStreamFor, stream_bytes, stream_limit, stream_of, entries_at, entry_commands};
 ghost use Rattle.bd_stream.specs.Planting.{IsFree, IsPlanted, AreAccepted, after_all, planting};
 ghost use Rattle.bd_stream.specs.Importing.{Path, State, IsSound, fed, go, start};
+
+use crate::importer::MAX_STREAM;
+
+/// The limit of a stream has one name in code and one in definitions.
+pub fn law_of_limits()
+    ensures { MAX_STREAM ≡ stream_limit }
+{}
 
 /// A head that was written is read again.
 pub fn heads_are_read_again()

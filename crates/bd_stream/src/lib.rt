@@ -17,4 +17,4 @@ mod stage;
 pub use exporter::Exporter;
 pub use fault::{ExportFault, ImportFault};
 pub use head::{Head, MAX_HEAD};
-pub use importer::Importer;
+pub use importer::{Importer, MAX_STREAM};

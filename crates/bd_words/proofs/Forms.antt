@@ -1,4 +1,4 @@
--- The three forms are calls.
+-- The forms are calls.
 use Rattle.std.proofs.Common.{◌≡◌, ◌∙◌, ◌<◌, ◌≤◌, ◌^◌, ℕ, Bool, true, false, ◌||◌, ◌==◌, not, List, [], ◌∷◌, refl, sym, ap, ap₂, arith, Option, Some, codes, true≢false}
 use Rattle.std.specs.Prelude.{decimal, nat_le, option_map, option_and_then}
 use Rattle.std.specs.List.{AllByRecursion}
@@ -9,7 +9,7 @@ use Rattle.std.proofs.lemmas.Slice.Eq.{bytes_eq-Decides}
 use Rattle.std.proofs.lemmas.Str.Parse.{digit_from_value}
 use Rattle.clap.proofs.OnLiterals.{clap_on_literals}
 use Rattle.bd_limits.specs.Limits.{slot_minimum, slot_limit}
-use Rattle.bd_words.specs.Words.{Call, Run, Format, Fill, HasForm, are_digits, call_of, count_in, fill_limit, fill_of, format_of, is_dashes, is_flag, is_image, is_number, number_in, run_of, seed_in, seed_limit, slots_in, values_in, verb_of}
+use Rattle.bd_words.specs.Words.{Call, Run, Format, Fill, Check, Export, Import, Serve, HasForm, IsOfImage, IsOfPath, are_digits, call_of, count_in, fill_limit, fill_of, format_of, is_dashes, is_flag, is_image, is_number, is_plain, number_in, of_image, of_path, seed_in, seed_limit, slots_in, values_in, verb_of}
 use Rattle.bd_words.proofs.NumberWords.{digits}
 
 -- ---- words that are values
@@ -31,15 +31,19 @@ not_minus : (b : Bool) → not b ≡ true → b ≡ false
 not_minus true e = sym e
 not_minus false e = refl
 
-value : (w : List ℕ) → is_image w ≡ true → (is_dashes w ≡ false) × (is_flag w ≡ false)
-value [] is = absurd (true≢false (sym is))
+value : (w : List ℕ) → is_plain w ≡ true → (is_dashes w ≡ false) × (is_flag w ≡ false)
+value [] is = (refl, refl)
 value (b ∷ bs) is = (not_dashes b bs (not_minus (b == 45) is), not_flag b bs (not_minus (b == 45) is))
 
-values : (ws : List (List ℕ)) → AllByRecursion (λ w. is_image w ≡ true) ws → values_in ws ≡ Some ws
+values : (ws : List (List ℕ)) → AllByRecursion (λ w. is_plain w ≡ true) ws → values_in ws ≡ Some ws
 values [] all = refl
 values (w ∷ ws) all =
     let is = value w all.0 in
     rw (is.0, is.1) (ap (option_map (λ vs. w ∷ vs)) (values ws all.1))
+
+plain_image : (w : List ℕ) → is_image w ≡ true → is_plain w ≡ true
+plain_image [] is = refl
+plain_image (b ∷ bs) is = is
 
 -- ---- numbers
 
@@ -66,7 +70,7 @@ written_decimal least most n low high small =
 
 -- ---- verbs
 
-run_verb : (vs : Option (List (List ℕ))) → verb_of (codes "run") vs ≡ option_and_then run_of vs
+run_verb : (vs : Option (List (List ℕ))) → verb_of (codes "run") vs ≡ option_and_then (of_image Run) vs
 unfolding clap_on_literals
 run_verb vs = refl
 
@@ -78,11 +82,31 @@ fill_verb : (vs : Option (List (List ℕ))) → verb_of (codes "fill") vs ≡ op
 unfolding clap_on_literals
 fill_verb vs = refl
 
+check_verb : (vs : Option (List (List ℕ))) → verb_of (codes "check") vs ≡ option_and_then (of_image Check) vs
+unfolding clap_on_literals
+check_verb vs = refl
+
+export_verb : (vs : Option (List (List ℕ))) → verb_of (codes "export") vs ≡ option_and_then (of_path Export) vs
+unfolding clap_on_literals
+export_verb vs = refl
+
+import_verb : (vs : Option (List (List ℕ))) → verb_of (codes "import") vs ≡ option_and_then (of_path Import) vs
+unfolding clap_on_literals
+import_verb vs = refl
+
+serve_verb : (vs : Option (List (List ℕ))) → verb_of (codes "serve") vs ≡ option_and_then (of_image Serve) vs
+unfolding clap_on_literals
+serve_verb vs = refl
+
 -- ---- the forms
 
-run_of_image : (image : List ℕ) → is_image image ≡ true → run_of (image ∷ []) ≡ Some (Run image)
-run_of_image [] is = absurd (true≢false (sym is))
-run_of_image (b ∷ bs) is = refl
+of_one_image : (call : List ℕ → Call) (image : List ℕ) → is_image image ≡ true → of_image call (image ∷ []) ≡ Some (call image)
+of_one_image call [] is = absurd (true≢false (sym is))
+of_one_image call (b ∷ bs) is = refl
+
+of_one_path : (call : List ℕ → List ℕ → Call) (image path : List ℕ) → is_image image ≡ true → of_path call (image ∷ path ∷ []) ≡ Some (call image path)
+of_one_path call [] path is = absurd (true≢false (sym is))
+of_one_path call (b ∷ bs) path is = refl
 
 format_of_image : (image slots : List ℕ) (n : ℕ) → is_image image ≡ true → slots_in slots ≡ Some n → format_of (image ∷ slots ∷ []) ≡ Some (Format image n)
 format_of_image [] slots n is number = absurd (true≢false (sym is))
@@ -94,15 +118,23 @@ fill_of_image [] seed count s n is first second = absurd (true≢false (sym is))
 fill_of_image (b ∷ bs) seed count s n is first second =
     ap₂ (λ (x y : Option ℕ). option_and_then (λ s. option_map (Fill (b ∷ bs) s) y) x) first second
 
-run_form : (program image : List ℕ) → is_image image ≡ true → call_of (program ∷ codes "run" ∷ image ∷ []) ≡ Some (Run image)
-run_form program image is =
-    ap (verb_of (codes "run")) (values (image ∷ []) (is, tt)) ∙ run_verb (Some (image ∷ [])) ∙ run_of_image image is
+image_form : (verb image : List ℕ) (call : List ℕ → Call) (words : List (List ℕ)) → ((vs : Option (List (List ℕ))) → verb_of verb vs ≡ option_and_then (of_image call) vs)
+    → (is_image image ≡ true) × IsOfImage verb image words → call_of words ≡ Some (call image)
+image_form verb image call words of h =
+    ap call_of h.1.words_are ∙ ap (verb_of verb) (values (image ∷ []) (plain_image image h.0, tt)) ∙ of (Some (image ∷ [])) ∙ of_one_image call image h.0
+
+path_form : (verb image path : List ℕ) (call : List ℕ → List ℕ → Call) (words : List (List ℕ))
+    → ((vs : Option (List (List ℕ))) → verb_of verb vs ≡ option_and_then (of_path call) vs) → (is_image image ≡ true) × IsOfPath verb image path words
+    → call_of words ≡ Some (call image path)
+path_form verb image path call words of h =
+    ap call_of h.1.words_are ∙ ap (verb_of verb) (values (image ∷ path ∷ []) (plain_image image h.0, (h.1.plain, tt))) ∙ of (Some (image ∷ path ∷ []))
+    ∙ of_one_path call image path h.0
 
 format_form : (program image : List ℕ) (slots : ℕ) → is_image image ≡ true → slot_minimum ≤ slots → slots ≤ slot_limit
     → call_of (program ∷ codes "format" ∷ image ∷ decimal slots ∷ []) ≡ Some (Format image slots)
 format_form program image slots is low high =
     let number = written_decimal slot_minimum slot_limit slots low high (omega arith) in
-    ap (verb_of (codes "format")) (values (image ∷ decimal slots ∷ []) (is, (number.0, tt))) ∙ format_verb (Some (image ∷ decimal slots ∷ []))
+    ap (verb_of (codes "format")) (values (image ∷ decimal slots ∷ []) (plain_image image is, (plain_image (decimal slots) number.0, tt))) ∙ format_verb (Some (image ∷ decimal slots ∷ []))
     ∙ format_of_image image (decimal slots) slots is number.1
 
 fill_form : (program image : List ℕ) (seed count : ℕ) → is_image image ≡ true → seed ≤ seed_limit → count ≤ fill_limit
@@ -110,11 +142,15 @@ fill_form : (program image : List ℕ) (seed count : ℕ) → is_image image ≡
 fill_form program image seed count is first second =
     let s = written_decimal 0 seed_limit seed (omega arith) first (omega arith) in
     let n = written_decimal 0 fill_limit count (omega arith) second (omega arith) in
-    ap (verb_of (codes "fill")) (values (image ∷ decimal seed ∷ decimal count ∷ []) (is, (s.0, (n.0, tt)))) ∙ fill_verb (Some (image ∷ decimal seed ∷ decimal count ∷ []))
+    ap (verb_of (codes "fill")) (values (image ∷ decimal seed ∷ decimal count ∷ []) (plain_image image is, (plain_image (decimal seed) s.0, (plain_image (decimal count) n.0, tt)))) ∙ fill_verb (Some (image ∷ decimal seed ∷ decimal count ∷ []))
     ∙ fill_of_image image (decimal seed) (decimal count) seed count is s.1 n.1
 
 pub form_is_call : (call : Call) (words : List (List ℕ)) → HasForm call words → call_of words ≡ Some call
-form_is_call (Run image) words h = ap call_of h.1.words_are ∙ run_form h.1.program image h.0
+form_is_call (Run image) words h = image_form (codes "run") image Run words run_verb h
 form_is_call (Format image slots) words h = ap call_of h.1.words_are ∙ format_form h.1.program image slots h.0 h.1.at_least h.1.at_most
 form_is_call (Fill image seed count) words h =
     ap call_of h.1.words_are ∙ fill_form h.1.program image seed count h.0 h.1.seed_at_most h.1.count_at_most
+form_is_call (Check image) words h = image_form (codes "check") image Check words check_verb h
+form_is_call (Export image path) words h = path_form (codes "export") image path Export words export_verb h
+form_is_call (Import image path) words h = path_form (codes "import") image path Import words import_verb h
+form_is_call (Serve image) words h = image_form (codes "serve") image Serve words serve_verb h

@@ -53,6 +53,10 @@ within (read.Run image) found has = tt
 within (read.Format image slots) found has = number_bounds slot_minimum slot_limit slots has.2.0 has.2.2
 within (read.Fill image seed count) found has =
     ((number_bounds 0 seed_limit seed has.2.0 has.2.3).1, (number_bounds 0 fill_limit count has.2.1 has.2.4).1)
+within (read.Check image) found has = tt
+within (read.Export image path) found has = tt
+within (read.Import image path) found has = tt
+within (read.Serve image) found has = tt
 
 -- ---- words that it refuses
 

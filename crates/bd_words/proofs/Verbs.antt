@@ -1,6 +1,6 @@
 -- What `clap` makes of the words after each verb.
 use Rattle.std.proofs.Common.{◌≡◌, ◌∙◌, inl, inr, ℕ, Bool, true, false, not, cond, ◌&&◌, ◌||◌, ◌==◌, List, [], ◌∷◌, refl, sym, ap, ap₂, subst, codes, Option, Some, None, arith, true≢false, nat_lt, lt-ltb}
-use Rattle.std.specs.Prelude.{length, slice_get, pos, unwrap_or}
+use Rattle.std.specs.Prelude.{length, pos}
 use Rattle.std.specs.Option.{option_and_then, option_map, option_map_or}
 use Rattle.std.specs.List.{AllByRecursion, find, fold, list_all}
 use Rattle.std.specs.Str.{IsUtf8, bytes_eq}
@@ -11,12 +11,12 @@ use Rattle.clap.specs.declared.error.kind.ErrorKind.TheVariants as kind
 use Rattle.std.specs.Str.Parse.{digits_value, without_leading_sign}
 use Rattle.clap.specs.ValueTests.{accepts}
 use Rattle.clap.specs.Walk.{Held, Rule, Text, arg_by_index, arg_by_long, arg_by_short, finished, nothing_held, rows_after, settled, walked}
-use Rattle.clap.specs.Simple.{Shape, built, new_shape}
+use Rattle.clap.specs.Simple.{App, Shape, built_leaf, inherited, marked_built, on_top, with_leaf_noted}
 use Rattle.clap.specs.Faults.{check_fault, defaults_fault, level_fault, settle_fault, walk_fault}
 use Rattle.clap.specs.declared.builder.value_parser.ValueParser.TheVariants.{Signed}
 use Rattle.bd_limits.specs.Limits.{slot_minimum, slot_limit}
-use Rattle.bd_words.specs.Words.{Call, Fill, is_number, seed_in, count_in, seed_limit, fill_limit, run_of, format_of, fill_of, values_in}
-use Rattle.bd_words.specs.Line.{HasRows, line}
+use Rattle.bd_words.specs.Words.{Call, Fill, is_number, seed_in, count_in, seed_limit, fill_limit, of_image, of_path, format_of, fill_of, values_in}
+use Rattle.bd_words.specs.Line.{HasRows, fill_line, format_line, image_line, image_row, line, path_line, path_row}
 use Rattle.bd_words.proofs.NumberWords.{number_same}
 use Rattle.bd_words.proofs.Reading.{IsHelp, NeverTrails, Follows, at, follows, help, left_refused, some_kind}
 
@@ -68,8 +68,13 @@ pub helps : (b : Bool) → IsHelp (cond b (Some help) None)
 helps true = inr refl
 helps false = inl refl
 
-abbrev pub verb_at : ℕ → Shape
-verb_at i = unwrap_or (slice_get (built line).subs i) (new_shape [])
+-- the program's own settings, as its verbs take them
+abbrev above : Shape
+above = (on_top with_leaf_noted (on_top marked_built line)).top
+
+-- a verb as `clap` has built it
+abbrev pub verb_shape : App → Shape
+verb_shape verb = built_leaf (inherited above verb.top)
 
 abbrev at_index : ℕ → Rule → Bool
 at_index i a = option_map_or (λ k. k == i) a.index false
@@ -78,44 +83,85 @@ at_index i a = option_map_or (λ k. k == i) a.index false
 named : (b : ℕ) (bs : Text) → nat_lt 0 (length (b ∷ bs)) ≡ true
 named b bs = lt-ltb 0 (length (b ∷ bs)) (omega arith)
 
-run_longs : (name : Text) → IsHelp (arg_by_long (verb_at 0).rules name)
-run_longs name = helps (bytes_eq (codes "help") name || false)
+-- ---- verbs that IMAGE follows
 
-run_shorts : (x : ℕ) → IsHelp (arg_by_short (verb_at 0).rules x)
-run_shorts x = helps ((104 == x) || false)
+abbrev pub image_shape : Text → Shape
+image_shape verb = verb_shape (image_line verb)
 
-run_never : (i : ℕ) → NeverTrails (arg_by_index (verb_at 0).rules i)
-run_never i = find_never (at_index i) (verb_at 0).rules refl
+image_longs : (verb name : Text) → IsHelp (arg_by_long (image_shape verb).rules name)
+image_longs verb name = helps (bytes_eq (codes "help") name || false)
 
-run_ends : (vs : List Text) → Ends (verb_at 0) vs (run_of vs)
+image_shorts : (verb : Text) (x : ℕ) → IsHelp (arg_by_short (image_shape verb).rules x)
+image_shorts verb x = helps ((104 == x) || false)
+
+image_never : (verb : Text) (i : ℕ) → NeverTrails (arg_by_index (image_shape verb).rules i)
+image_never verb i = find_never (at_index i) (image_shape verb).rules refl
+
+image_ends : (verb : Text) (call : Text → Call) → ((image : Text) → HasRows (call image) (image_row image ∷ [])) → (vs : List Text)
+    → Ends (image_shape verb) vs (of_image call vs)
 unfolding clap_on_literals
-run_ends [] = some_kind _ _
-run_ends ([] ∷ []) = some_kind _ _
-run_ends ((b ∷ bs) ∷ []) = (rw (named b bs) refl, refl)
-run_ends (a ∷ b ∷ vs) = some_kind _ _
+image_ends verb call has [] = some_kind _ _
+image_ends verb call has ([] ∷ []) = some_kind _ _
+image_ends verb call has ((b ∷ bs) ∷ []) = (rw (named b bs) refl, has (b ∷ bs))
+image_ends verb call has (a ∷ b ∷ vs) = some_kind _ _
 
-pub run_reads : (ws : List Text) → AllByRecursion IsUtf8 ws → Reads (verb_at 0) ws (option_and_then run_of (values_in ws))
-run_reads = reads (verb_at 0) run_longs run_shorts run_never run_of run_ends
+pub image_reads : (verb : Text) (call : Text → Call) → ((image : Text) → HasRows (call image) (image_row image ∷ [])) → (ws : List Text) → AllByRecursion IsUtf8 ws
+    → Reads (image_shape verb) ws (option_and_then (of_image call) (values_in ws))
+image_reads verb call has = reads (image_shape verb) (image_longs verb) (image_shorts verb) (image_never verb) (of_image call) (image_ends verb call has)
+
+-- ---- verbs that IMAGE and PATH follow
+
+abbrev pub path_shape : Text → Shape
+path_shape verb = verb_shape (path_line verb)
+
+path_longs : (verb name : Text) → IsHelp (arg_by_long (path_shape verb).rules name)
+path_longs verb name = helps (bytes_eq (codes "help") name || false)
+
+path_shorts : (verb : Text) (x : ℕ) → IsHelp (arg_by_short (path_shape verb).rules x)
+path_shorts verb x = helps ((104 == x) || false)
+
+path_never : (verb : Text) (i : ℕ) → NeverTrails (arg_by_index (path_shape verb).rules i)
+path_never verb i = find_never (at_index i) (path_shape verb).rules refl
+
+path_ends : (verb : Text) (call : Text → Text → Call) → ((image path : Text) → HasRows (call image path) (image_row image ∷ path_row path ∷ [])) → (vs : List Text)
+    → Ends (path_shape verb) vs (of_path call vs)
+unfolding clap_on_literals
+path_ends verb call has [] = some_kind _ _
+path_ends verb call has ([] ∷ []) = some_kind _ _
+path_ends verb call has ((b ∷ bs) ∷ []) = λ e. some_kind _ _ (rw (named b bs) at e)
+path_ends verb call has ([] ∷ path ∷ []) = some_kind _ _
+path_ends verb call has ((b ∷ bs) ∷ path ∷ []) = (rw (named b bs) refl, has (b ∷ bs) path)
+path_ends verb call has ([] ∷ path ∷ c ∷ vs) = some_kind _ _
+path_ends verb call has ((b ∷ bs) ∷ path ∷ c ∷ vs) = λ e. some_kind _ _ (rw (named b bs) at e)
+
+pub path_reads : (verb : Text) (call : Text → Text → Call) → ((image path : Text) → HasRows (call image path) (image_row image ∷ path_row path ∷ [])) → (ws : List Text)
+    → AllByRecursion IsUtf8 ws → Reads (path_shape verb) ws (option_and_then (of_path call) (values_in ws))
+path_reads verb call has = reads (path_shape verb) (path_longs verb) (path_shorts verb) (path_never verb) (of_path call) (path_ends verb call has)
+
+-- ---- `format`
+
+abbrev pub format_shape : Shape
+format_shape = verb_shape format_line
 
 abbrev accepted : ℕ → ℕ → Text → Bool
 accepted least most = accepts false (Signed (pos least) (pos most))
 
-format_longs : (name : Text) → IsHelp (arg_by_long (verb_at 1).rules name)
+format_longs : (name : Text) → IsHelp (arg_by_long format_shape.rules name)
 format_longs name = helps (bytes_eq (codes "help") name || false)
 
-format_shorts : (x : ℕ) → IsHelp (arg_by_short (verb_at 1).rules x)
+format_shorts : (x : ℕ) → IsHelp (arg_by_short format_shape.rules x)
 format_shorts x = helps ((104 == x) || false)
 
-format_never : (i : ℕ) → NeverTrails (arg_by_index (verb_at 1).rules i)
-format_never i = find_never (at_index i) (verb_at 1).rules refl
+format_never : (i : ℕ) → NeverTrails (arg_by_index format_shape.rules i)
+format_never i = find_never (at_index i) format_shape.rules refl
 
 format_both : (b : ℕ) (bs slots : Text) (t : Bool) → accepted slot_minimum slot_limit slots ≡ t → is_number slot_minimum slot_limit slots ≡ t
-    → Ends (verb_at 1) ((b ∷ bs) ∷ slots ∷ []) (format_of ((b ∷ bs) ∷ slots ∷ []))
+    → Ends format_shape ((b ∷ bs) ∷ slots ∷ []) (format_of ((b ∷ bs) ∷ slots ∷ []))
 unfolding clap_on_literals
 format_both b bs slots true a n = rw n (rw (named b bs, a) refl, (slots, refl, rw n refl))
 format_both b bs slots false a n = rw n (λ e. some_kind _ _ (rw (named b bs, a) at e))
 
-format_ends : (vs : List Text) → Ends (verb_at 1) vs (format_of vs)
+format_ends : (vs : List Text) → Ends format_shape vs (format_of vs)
 unfolding clap_on_literals
 format_ends [] = some_kind _ _
 format_ends ([] ∷ []) = some_kind _ _
@@ -125,19 +171,24 @@ format_ends ((b ∷ bs) ∷ slots ∷ []) = format_both b bs slots _ (number_sam
 format_ends ([] ∷ slots ∷ c ∷ vs) = some_kind _ _
 format_ends ((b ∷ bs) ∷ slots ∷ c ∷ vs) = λ e. some_kind _ _ (rw (named b bs) at e)
 
-pub format_reads : (ws : List Text) → AllByRecursion IsUtf8 ws → Reads (verb_at 1) ws (option_and_then format_of (values_in ws))
-format_reads = reads (verb_at 1) format_longs format_shorts format_never format_of format_ends
+pub format_reads : (ws : List Text) → AllByRecursion IsUtf8 ws → Reads format_shape ws (option_and_then format_of (values_in ws))
+format_reads = reads format_shape format_longs format_shorts format_never format_of format_ends
 
-fill_longs : (name : Text) → IsHelp (arg_by_long (verb_at 2).rules name)
+-- ---- `fill`
+
+abbrev pub fill_shape : Shape
+fill_shape = verb_shape fill_line
+
+fill_longs : (name : Text) → IsHelp (arg_by_long fill_shape.rules name)
 fill_longs name = helps (bytes_eq (codes "help") name || false)
 
-fill_shorts : (x : ℕ) → IsHelp (arg_by_short (verb_at 2).rules x)
+fill_shorts : (x : ℕ) → IsHelp (arg_by_short fill_shape.rules x)
 fill_shorts x = helps ((104 == x) || false)
 
-fill_never : (i : ℕ) → NeverTrails (arg_by_index (verb_at 2).rules i)
-fill_never i = find_never (at_index i) (verb_at 2).rules refl
+fill_never : (i : ℕ) → NeverTrails (arg_by_index fill_shape.rules i)
+fill_never i = find_never (at_index i) fill_shape.rules refl
 
-fill_two : (b : ℕ) (bs seed : Text) (t : Bool) → accepted 0 seed_limit seed ≡ t → Ends (verb_at 2) ((b ∷ bs) ∷ seed ∷ []) None
+fill_two : (b : ℕ) (bs seed : Text) (t : Bool) → accepted 0 seed_limit seed ≡ t → Ends fill_shape ((b ∷ bs) ∷ seed ∷ []) None
 unfolding clap_on_literals
 fill_two b bs seed true a = λ e. some_kind _ _ (rw (named b bs, a) at e)
 fill_two b bs seed false a = λ e. some_kind _ _ (rw (named b bs, a) at e)
@@ -151,22 +202,22 @@ three name first second =
     or_else (or_else (refused_if kind.InvalidValue name) (or_else (refused_if kind.ValueValidation first) []))
     (or_else (refused_if kind.ValueValidation second) [])
 
-fill_fault : (b : ℕ) (bs seed count : Text) → closing (verb_at 2) false [] (walk_fault (verb_at 2) [] (at true [] None false 1) ((b ∷ bs) ∷ seed ∷ count ∷ []))
-    (fold (walked (verb_at 2).rules []) (at true [] None false 1) ((b ∷ bs) ∷ seed ∷ count ∷ [])).held
+fill_fault : (b : ℕ) (bs seed count : Text) → closing fill_shape false [] (walk_fault fill_shape [] (at true [] None false 1) ((b ∷ bs) ∷ seed ∷ count ∷ []))
+    (fold (walked fill_shape.rules []) (at true [] None false 1) ((b ∷ bs) ∷ seed ∷ count ∷ [])).held
     ≡ three (nat_lt 0 (length (b ∷ bs))) (accepted 0 seed_limit seed) (accepted 0 fill_limit count)
 unfolding clap_on_literals
 fill_fault b bs seed count = refl
 
 fill_passes : (b : ℕ) (bs seed count : Text) (s n : ℕ) → accepted 0 seed_limit seed ≡ true → accepted 0 fill_limit count ≡ true → seed_in seed ≡ Some s → count_in count ≡ Some n
-    → Ends (verb_at 2) ((b ∷ bs) ∷ seed ∷ count ∷ []) (Some (Fill (b ∷ bs) s n))
+    → Ends fill_shape ((b ∷ bs) ∷ seed ∷ count ∷ []) (Some (Fill (b ∷ bs) s n))
 unfolding clap_on_literals
 fill_passes b bs seed count s n a d is_seed is_count =
     (fill_fault b bs seed count ∙ (λ i. three (named b bs i) (a i) (d i)), (seed, count, refl, is_seed, is_count))
 
-fill_seed : (b : ℕ) (bs seed count : Text) → accepted 0 seed_limit seed ≡ false → Ends (verb_at 2) ((b ∷ bs) ∷ seed ∷ count ∷ []) None
+fill_seed : (b : ℕ) (bs seed count : Text) → accepted 0 seed_limit seed ≡ false → Ends fill_shape ((b ∷ bs) ∷ seed ∷ count ∷ []) None
 fill_seed b bs seed count a e = some_kind _ _ (sym (λ i. three (named b bs i) (a i) (accepted 0 fill_limit count)) ∙ (sym (fill_fault b bs seed count) ∙ e))
 
-fill_count : (b : ℕ) (bs seed count : Text) → accepted 0 seed_limit seed ≡ true → accepted 0 fill_limit count ≡ false → Ends (verb_at 2) ((b ∷ bs) ∷ seed ∷ count ∷ []) None
+fill_count : (b : ℕ) (bs seed count : Text) → accepted 0 seed_limit seed ≡ true → accepted 0 fill_limit count ≡ false → Ends fill_shape ((b ∷ bs) ∷ seed ∷ count ∷ []) None
 fill_count b bs seed count a d e = some_kind _ _ (sym (λ i. three (named b bs i) (a i) (d i)) ∙ (sym (fill_fault b bs seed count) ∙ e))
 
 -- the call of three values, of which the first is a name
@@ -174,28 +225,28 @@ abbrev filling : Text → Option ℕ → Option ℕ → Option Call
 filling image seed count = option_and_then (λ s. option_map (Fill image s) count) seed
 
 fill_all : (b : ℕ) (bs seed count : Text) (t u : Bool) → is_number 0 seed_limit seed ≡ t → is_number 0 fill_limit count ≡ u
-    → Ends (verb_at 2) ((b ∷ bs) ∷ seed ∷ count ∷ []) (filling (b ∷ bs) (seed_in seed) (count_in count))
+    → Ends fill_shape ((b ∷ bs) ∷ seed ∷ count ∷ []) (filling (b ∷ bs) (seed_in seed) (count_in count))
 fill_all b bs seed count true true n m =
     let s : seed_in seed ≡ Some (digits_value 10 (without_leading_sign seed)) = rw n refl in
     let k : count_in count ≡ Some (digits_value 10 (without_leading_sign count)) = rw m refl in
-    subst (Ends (verb_at 2) ((b ∷ bs) ∷ seed ∷ count ∷ [])) (sym (ap₂ (filling (b ∷ bs)) s k))
+    subst (Ends fill_shape ((b ∷ bs) ∷ seed ∷ count ∷ [])) (sym (ap₂ (filling (b ∷ bs)) s k))
     (fill_passes b bs seed count _ _ (number_same 0 seed_limit seed (omega arith) ∙ n) (number_same 0 fill_limit count (omega arith) ∙ m) s k)
 fill_all b bs seed count true false n m =
     let s : seed_in seed ≡ Some (digits_value 10 (without_leading_sign seed)) = rw n refl in
     let k : count_in count ≡ None = rw m refl in
-    subst (Ends (verb_at 2) ((b ∷ bs) ∷ seed ∷ count ∷ [])) (sym (ap₂ (filling (b ∷ bs)) s k))
+    subst (Ends fill_shape ((b ∷ bs) ∷ seed ∷ count ∷ [])) (sym (ap₂ (filling (b ∷ bs)) s k))
     (fill_count b bs seed count (number_same 0 seed_limit seed (omega arith) ∙ n) (number_same 0 fill_limit count (omega arith) ∙ m))
 fill_all b bs seed count false u n m =
     let s : seed_in seed ≡ None = rw n refl in
-    subst (Ends (verb_at 2) ((b ∷ bs) ∷ seed ∷ count ∷ [])) (sym (ap (λ o. filling (b ∷ bs) o (count_in count)) s))
+    subst (Ends fill_shape ((b ∷ bs) ∷ seed ∷ count ∷ [])) (sym (ap (λ o. filling (b ∷ bs) o (count_in count)) s))
     (fill_seed b bs seed count (number_same 0 seed_limit seed (omega arith) ∙ n))
 
-fill_more : (b : ℕ) (bs seed count d : Text) (vs : List Text) (t : Bool) → accepted 0 seed_limit seed ≡ t → Ends (verb_at 2) ((b ∷ bs) ∷ seed ∷ count ∷ d ∷ vs) None
+fill_more : (b : ℕ) (bs seed count d : Text) (vs : List Text) (t : Bool) → accepted 0 seed_limit seed ≡ t → Ends fill_shape ((b ∷ bs) ∷ seed ∷ count ∷ d ∷ vs) None
 unfolding clap_on_literals
 fill_more b bs seed count d vs true a = λ e. some_kind _ _ (rw (named b bs, a) at e)
 fill_more b bs seed count d vs false a = λ e. some_kind _ _ (rw (named b bs, a) at e)
 
-fill_ends : (vs : List Text) → Ends (verb_at 2) vs (fill_of vs)
+fill_ends : (vs : List Text) → Ends fill_shape vs (fill_of vs)
 unfolding clap_on_literals
 fill_ends [] = some_kind _ _
 fill_ends ([] ∷ []) = some_kind _ _
@@ -208,5 +259,5 @@ fill_ends ((b ∷ bs) ∷ seed ∷ count ∷ []) =
 fill_ends ([] ∷ seed ∷ count ∷ d ∷ vs) = some_kind _ _
 fill_ends ((b ∷ bs) ∷ seed ∷ count ∷ d ∷ vs) = fill_more b bs seed count d vs _ refl
 
-pub fill_reads : (ws : List Text) → AllByRecursion IsUtf8 ws → Reads (verb_at 2) ws (option_and_then fill_of (values_in ws))
-fill_reads = reads (verb_at 2) fill_longs fill_shorts fill_never fill_of fill_ends
+pub fill_reads : (ws : List Text) → AllByRecursion IsUtf8 ws → Reads fill_shape ws (option_and_then fill_of (values_in ws))
+fill_reads = reads fill_shape fill_longs fill_shorts fill_never fill_of fill_ends

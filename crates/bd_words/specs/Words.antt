@@ -12,6 +12,10 @@ pub data Call : Type 0 where
   Run : (image : List ℕ) → Call
   Format : (image : List ℕ) (slots : ℕ) → Call
   Fill : (image : List ℕ) (seed count : ℕ) → Call
+  Check : (image : List ℕ) → Call
+  Export : (image path : List ℕ) → Call
+  Import : (image path : List ℕ) → Call
+  Serve : (image : List ℕ) → Call
 
 -- the greatest seed and the greatest number of lines of a fill
 abbrev pub seed_limit : ℕ
@@ -24,6 +28,11 @@ fill_limit = 100000
 abbrev pub is_image : List ℕ → Bool
 is_image [] = false
 is_image (b ∷ bs) = not (b == 45)
+
+-- not beginning with `-`
+abbrev pub is_plain : List ℕ → Bool
+is_plain [] = true
+is_plain (b ∷ bs) = not (b == 45)
 
 -- `-` and more
 abbrev pub is_flag : List ℕ → Bool
@@ -75,10 +84,15 @@ seed_in = number_in 0 seed_limit
 abbrev pub count_in : List ℕ → Option ℕ
 count_in = number_in 0 fill_limit
 
--- the call of `run IMAGE`
-abbrev pub run_of : List (List ℕ) → Option Call
-run_of (image ∷ []) = option_map Run (image_in image)
-run_of _ = None
+-- the call of a verb that IMAGE follows, as `run IMAGE`
+abbrev pub of_image : (List ℕ → Call) → List (List ℕ) → Option Call
+of_image call (image ∷ []) = option_map call (image_in image)
+of_image call _ = None
+
+-- the call of a verb that IMAGE and PATH follow, as `export IMAGE PATH`
+abbrev pub of_path : (List ℕ → List ℕ → Call) → List (List ℕ) → Option Call
+of_path call (image ∷ path ∷ []) = option_map (λ i. call i path) (image_in image)
+of_path call _ = None
 
 -- the call of `format IMAGE SLOTS`
 abbrev pub format_of : List (List ℕ) → Option Call
@@ -94,23 +108,36 @@ fill_of _ = None
 -- the call of a verb with its values, if it has them
 abbrev pub verb_of : List ℕ → Option (List (List ℕ)) → Option Call
 verb_of verb values =
-    if bytes_eq (codes "run") verb then option_and_then run_of values
+    if bytes_eq (codes "run") verb then option_and_then (of_image Run) values
     else (if bytes_eq (codes "format") verb then option_and_then format_of values
-    else (if bytes_eq (codes "fill") verb then option_and_then fill_of values else None))
+    else (if bytes_eq (codes "fill") verb then option_and_then fill_of values
+    else (if bytes_eq (codes "check") verb then option_and_then (of_image Check) values
+    else (if bytes_eq (codes "export") verb then option_and_then (of_path Export) values
+    else (if bytes_eq (codes "import") verb then option_and_then (of_path Import) values
+    else (if bytes_eq (codes "serve") verb then option_and_then (of_image Serve) values
+    else None))))))
 
--- the call that the words make: `PROGRAM run IMAGE`, `PROGRAM format IMAGE SLOTS` or `PROGRAM fill
--- IMAGE SEED COUNT`; other words are refused
+-- the call that the words make: `PROGRAM run IMAGE`, `PROGRAM format IMAGE SLOTS`, `PROGRAM fill
+-- IMAGE SEED COUNT`, `PROGRAM check IMAGE`, `PROGRAM export IMAGE PATH`, `PROGRAM import IMAGE PATH`
+-- or `PROGRAM serve IMAGE`; other words are refused
 abbrev pub call_of : List (List ℕ) → Option Call
 call_of [] = None
 call_of (program ∷ []) = None
 call_of (program ∷ verb ∷ words) = verb_of verb (values_in words)
 
--- ---- the three forms
+-- ---- the forms
 
--- `PROGRAM run IMAGE`
-pub record IsRun (image : List ℕ) (words : List (List ℕ)) : Type 0 where
+-- `PROGRAM VERB IMAGE`, as of `run`, `check` and `serve`
+pub record IsOfImage (verb image : List ℕ) (words : List (List ℕ)) : Type 0 where
   pub program : List ℕ
-  pub words_are : words ≡ program ∷ codes "run" ∷ image ∷ []
+  pub words_are : words ≡ program ∷ verb ∷ image ∷ []
+
+-- `PROGRAM VERB IMAGE PATH`, as of `export` and `import`, with a path that doesn't begin with `-`
+-- and may be empty
+pub record IsOfPath (verb image path : List ℕ) (words : List (List ℕ)) : Type 0 where
+  pub program : List ℕ
+  pub words_are : words ≡ program ∷ verb ∷ image ∷ path ∷ []
+  pub plain : is_plain path ≡ true
 
 -- `PROGRAM format IMAGE SLOTS`, with 24 to 65,536 slots in decimal digits
 pub record IsFormat (image : List ℕ) (slots : ℕ) (words : List (List ℕ)) : Type 0 where
@@ -128,6 +155,12 @@ pub record IsFill (image : List ℕ) (seed count : ℕ) (words : List (List ℕ)
 
 -- the words have a call's form
 abbrev pub HasForm : Call → List (List ℕ) → Type 0
-HasForm (Run image) words = (is_image image ≡ true) × IsRun image words
+HasForm (Run image) words = (is_image image ≡ true) × IsOfImage (codes "run") image words
 HasForm (Format image slots) words = (is_image image ≡ true) × IsFormat image slots words
 HasForm (Fill image seed count) words = (is_image image ≡ true) × IsFill image seed count words
+HasForm (Check image) words = (is_image image ≡ true) × IsOfImage (codes "check") image words
+HasForm (Export image path) words =
+    (is_image image ≡ true) × IsOfPath (codes "export") image path words
+HasForm (Import image path) words =
+    (is_image image ≡ true) × IsOfPath (codes "import") image path words
+HasForm (Serve image) words = (is_image image ≡ true) × IsOfImage (codes "serve") image words

@@ -6,8 +6,8 @@ ghost use Rattle.std.specs.Str.{IsUtf8};
 ghost use Rattle.bd_words.specs.Line.{AreTaken};
 ghost use Rattle.bd_words.specs.Words.{Call, HasForm, call_of};
 
-/// The three forms are calls where IMAGE isn't empty and doesn't begin with `-`, and each number is
-/// within its limits and written in decimal digits.
+/// The forms are calls where IMAGE isn't empty and doesn't begin with `-`, PATH doesn't begin with
+/// `-` and may be empty, and each number is within its limits and written in decimal digits.
 pub fn forms_are_calls()
     ensures { (call : Call) (words : List (List ℕ)) → HasForm call words
         → call_of words ≡ Some call }

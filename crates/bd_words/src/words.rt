@@ -6,8 +6,11 @@ ghost use Rattle.clap.specs.declared.builder.command.Command.TheViews.{out-Comma
 ghost use Rattle.clap.specs.declared.error.kind.ErrorKind.TheVariants.{OutOfMemory};
 ghost use Rattle.bd_words.specs.Words.{call_of, number_in};
 ghost use Rattle.bd_words.specs.Words.{Run as RunCall, Format as FormatCall, Fill as FillCall};
-ghost use Rattle.bd_words.specs.Line.{AreTaken, HasRead, HasRows, fill_line, format_line, image_rule};
-ghost use Rattle.bd_words.specs.Line.{line, number_rule, run_line};
+ghost use Rattle.bd_words.specs.Words.{Check as CheckCall, Export as ExportCall};
+ghost use Rattle.bd_words.specs.Words.{Import as ImportCall, Serve as ServeCall};
+ghost use Rattle.bd_words.specs.Line.{AreTaken, HasRead, HasRows, fill_line, first_line};
+ghost use Rattle.bd_words.specs.Line.{format_line, image_line, image_rule, line, number_rule};
+ghost use Rattle.bd_words.specs.Line.{path_line, path_rule};
 ghost use Rattle.bd_words.specs.Calls.{IsWithinLimits, asked};
 
 use bd_limits::{MAX_SLOTS, MIN_SLOTS};
@@ -36,6 +39,24 @@ pub enum Call<'a> {
         image: &'a str,
         seed: u32,
         count: u32,
+    },
+    /// To check the image of this name.
+    Check {
+        image: &'a str,
+    },
+    /// To write what is at a path of the image of this name, and below it, as a stream.
+    Export {
+        image: &'a str,
+        path: &'a str,
+    },
+    /// To make what a stream has at a path of the image of this name.
+    Import {
+        image: &'a str,
+        path: &'a str,
+    },
+    /// To execute the script of several clients on the image of this name.
+    Serve {
+        image: &'a str,
     },
 }
 
@@ -82,6 +103,14 @@ fn image_arg<'a>(alloc: Global) -> Arg<'a>
         .value_parser(ValueParser::NonEmptyString)
 }
 
+/// The argument PATH, a word that may be empty.
+fn path_arg<'a>(alloc: Global) -> Arg<'a>
+    ensures rule { rule_of result ≡ path_rule }
+    ensures local { result.global ≡ false }
+{
+    Arg::new(alloc, "path").required(true)
+}
+
 /// An argument that is a whole number from `least` to `most`.
 fn number_arg<'a>(alloc: Global, id: &'a str, least: u32, most: u32) -> Arg<'a>
     ensures rule { rule_of result ≡ number_rule id.entry.now least most }
@@ -91,12 +120,22 @@ fn number_arg<'a>(alloc: Global, id: &'a str, least: u32, most: u32) -> Arg<'a>
     Arg::new(alloc, id).required(true).value_parser(within)
 }
 
-/// `run IMAGE`.
-fn run_command<'a>(alloc: Global) -> Result<Command<'a>, AllocError>
-    ensures line { IfOk result (λ c. app_of c ≡ run_line) }
+/// A verb that IMAGE follows.
+fn image_command<'a>(alloc: Global, verb: &'a str) -> Result<Command<'a>, AllocError>
+    ensures line { IfOk result (λ c. app_of c ≡ image_line verb.entry.now) }
     ensures local { IfOk result (λ c. (out-Command c).has_globals ≡ false) }
 {
-    Command::new(alloc, "run").arg(image_arg(alloc))
+    Command::new(alloc, verb).arg(image_arg(alloc))
+}
+
+/// A verb that IMAGE and PATH follow.
+fn path_command<'a>(alloc: Global, verb: &'a str) -> Result<Command<'a>, AllocError>
+    ensures line { IfOk result (λ c. app_of c ≡ path_line verb.entry.now) }
+    ensures local { IfOk result (λ c. (out-Command c).has_globals ≡ false) }
+{
+    Command::new(alloc, verb)
+        .arg(image_arg(alloc))?
+        .arg(path_arg(alloc))
 }
 
 /// `format IMAGE SLOTS`.
@@ -123,15 +162,26 @@ fn fill_command<'a>(alloc: Global) -> Result<Command<'a>, AllocError>
         .arg(count)
 }
 
+/// The program's command line with the subcommands `run`, `format` and `fill`.
+fn first_commands<'a>(alloc: Global) -> Result<Command<'a>, AllocError>
+    ensures line { IfOk result (λ c. app_of c ≡ first_line) }
+{
+    Command::new(alloc, "betr")
+        .subcommand_required(true)
+        .subcommand(image_command(alloc, "run")?)?
+        .subcommand(format_command(alloc)?)?
+        .subcommand(fill_command(alloc)?)
+}
+
 /// The program's command line, with a subcommand for each call.
 fn command_line<'a>(alloc: Global) -> Result<Command<'a>, AllocError>
     ensures line { IfOk result (λ c. app_of c ≡ line) }
 {
-    Command::new(alloc, "betr")
-        .subcommand_required(true)
-        .subcommand(run_command(alloc)?)?
-        .subcommand(format_command(alloc)?)?
-        .subcommand(fill_command(alloc)?)
+    first_commands(alloc)?
+        .subcommand(image_command(alloc, "check")?)?
+        .subcommand(path_command(alloc, "export")?)?
+        .subcommand(path_command(alloc, "import")?)?
+        .subcommand(image_command(alloc, "serve")?)
 }
 
 /// The number that a parse found under `id`.
@@ -175,6 +225,46 @@ fn fill_in<'a>(values: &ArgMatches<'a>) -> Option<Call<'a>>
     Some(Call::Fill { image, seed, count })
 }
 
+/// The call of `check` with the values that a parse found.
+fn check_in<'a>(values: &ArgMatches<'a>) -> Option<Call<'a>>
+    ensures { (image : List ℕ) → HasRows (CheckCall image) (rows_of (found_of values.now))
+        → option_map asked result ≡ Some (CheckCall image) }
+{
+    let image = values.get_str("image")?;
+    Some(Call::Check { image })
+}
+
+/// The call of `export` with the values that a parse found.
+fn export_in<'a>(values: &ArgMatches<'a>) -> Option<Call<'a>>
+    ensures { (image path : List ℕ)
+        → HasRows (ExportCall image path) (rows_of (found_of values.now))
+        → option_map asked result ≡ Some (ExportCall image path) }
+{
+    let image = values.get_str("image")?;
+    let path = values.get_str("path")?;
+    Some(Call::Export { image, path })
+}
+
+/// The call of `import` with the values that a parse found.
+fn import_in<'a>(values: &ArgMatches<'a>) -> Option<Call<'a>>
+    ensures { (image path : List ℕ)
+        → HasRows (ImportCall image path) (rows_of (found_of values.now))
+        → option_map asked result ≡ Some (ImportCall image path) }
+{
+    let image = values.get_str("image")?;
+    let path = values.get_str("path")?;
+    Some(Call::Import { image, path })
+}
+
+/// The call of `serve` with the values that a parse found.
+fn serve_in<'a>(values: &ArgMatches<'a>) -> Option<Call<'a>>
+    ensures { (image : List ℕ) → HasRows (ServeCall image) (rows_of (found_of values.now))
+        → option_map asked result ≡ Some (ServeCall image) }
+{
+    let image = values.get_str("image")?;
+    Some(Call::Serve { image })
+}
+
 /// The call that a parse found.
 fn call_in<'a>(matches: &ArgMatches<'a>) -> Option<Call<'a>>
     ensures { (call : _) → HasRead call (subcommand_rows_of matches.now)
@@ -185,13 +275,19 @@ fn call_in<'a>(matches: &ArgMatches<'a>) -> Option<Call<'a>>
         "run" => run_in(values),
         "format" => format_in(values),
         "fill" => fill_in(values),
+        "check" => check_in(values),
+        "export" => export_in(values),
+        "import" => import_in(values),
+        "serve" => serve_in(values),
         _ => None,
     }
 }
 
 /// The call that the program's words make: `PROGRAM run IMAGE`, `PROGRAM format IMAGE SLOTS` with 24
-/// to 65,536 slots, or `PROGRAM fill IMAGE SEED COUNT` with a seed of 32 bits and at most 100,000
-/// lines. Other words are refused, and so is a wish for help. Without memory it is `NoMemory`.
+/// to 65,536 slots, `PROGRAM fill IMAGE SEED COUNT` with a seed of 32 bits and at most 100,000 lines,
+/// `PROGRAM check IMAGE`, `PROGRAM export IMAGE PATH`, `PROGRAM import IMAGE PATH` or `PROGRAM serve
+/// IMAGE`. A PATH may be empty. Other words are refused, and so is a wish for help. Without memory
+/// it is `NoMemory`.
 pub fn read_words<'a>(alloc: Global, words: &'a [String]) -> Result<Call<'a>, WordsFault>
     ensures call { IfOk result (λ call. call_of (map string_bytes words.now) ≡ Some (asked call)) }
     ensures within { IfOk result IsWithinLimits }
