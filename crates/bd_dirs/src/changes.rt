@@ -28,7 +28,7 @@ pub fn mkdir<M: KeyMap>(alloc: Global, m: &mut M, path: &Path) -> Result<Plan, M
     ensures ready { IfOk result IsReady }
     ensures left { IsLeft M.KeyMap m.old m.new }
     ensures cause { HasMapCause (M.fault_count m.old) (M.fault_count m.new)
-        (M.bad m.new) NeverWorn result }
+        (M.last_failed m.new) (M.bad m.new) NeverWorn result }
 {
     make(alloc, m, path, Record::Dir(0))
 }
@@ -41,7 +41,7 @@ pub fn create<M: KeyMap>(alloc: Global, m: &mut M, path: &Path) -> Result<Plan, 
     ensures ready { IfOk result IsReady }
     ensures left { IsLeft M.KeyMap m.old m.new }
     ensures cause { HasMapCause (M.fault_count m.old) (M.fault_count m.new)
-        (M.bad m.new) NeverWorn result }
+        (M.last_failed m.new) (M.bad m.new) NeverWorn result }
 {
     make(alloc, m, path, Record::File(0, 0))
 }
@@ -54,7 +54,7 @@ fn make<M: KeyMap>(alloc: Global, m: &mut M, path: &Path, entry: Record) -> Resu
     ensures ready { IfOk result IsReady }
     ensures left { IsLeft M.KeyMap m.old m.new }
     ensures cause { HasMapCause (M.fault_count m.old) (M.fault_count m.new)
-        (M.bad m.new) NeverWorn result }
+        (M.last_failed m.new) (M.bad m.new) NeverWorn result }
 {
     if let Some(refusal) = unmakeable(alloc, m, path)? {
         return Ok(Plan::Refused(refusal));
@@ -72,7 +72,7 @@ pub fn chmod<M: KeyMap>(alloc: Global, m: &mut M, path: &Path, mode: u16) -> Res
     ensures ready { IfOk result IsReady }
     ensures left { IsLeft M.KeyMap m.old m.new }
     ensures cause { HasMapCause (M.fault_count m.old) (M.fault_count m.new)
-        (M.bad m.new) NeverWorn result }
+        (M.last_failed m.new) (M.bad m.new) NeverWorn result }
 {
     let Some(found) = record(alloc, m, path)? else {
         return Ok(Plan::Refused(Refusal::NotFound));
@@ -100,7 +100,7 @@ pub fn remove<M: KeyMap>(alloc: Global, m: &mut M, path: &Path) -> Result<Plan, 
     ensures ready { IfOk result IsReady }
     ensures left { IsLeft M.KeyMap m.old m.new }
     ensures cause { HasMapCause (M.fault_count m.old) (M.fault_count m.new)
-        (M.bad m.new) NeverWorn result }
+        (M.last_failed m.new) (M.bad m.new) NeverWorn result }
 {
     if path.is_root() {
         return Ok(Plan::Refused(Refusal::Root));
@@ -124,7 +124,7 @@ pub fn clone_to<M: KeyMap>(alloc: Global, m: &mut M, a: &Path, b: &Path) -> Resu
     ensures ready { IfOk result IsReady }
     ensures left { IsLeft M.KeyMap m.old m.new }
     ensures cause { HasMapCause (M.fault_count m.old) (M.fault_count m.new)
-        (M.bad m.new) NeverWorn result }
+        (M.last_failed m.new) (M.bad m.new) NeverWorn result }
 {
     if let Some(refusal) = absent(alloc, m, a)? {
         return Ok(Plan::Refused(refusal));
@@ -148,7 +148,7 @@ pub fn rename<M: KeyMap>(alloc: Global, m: &mut M, a: &Path, b: &Path) -> Result
     ensures ready { IfOk result IsReady }
     ensures left { IsLeft M.KeyMap m.old m.new }
     ensures cause { HasMapCause (M.fault_count m.old) (M.fault_count m.new)
-        (M.bad m.new) NeverWorn result }
+        (M.last_failed m.new) (M.bad m.new) NeverWorn result }
 {
     if a.is_root() {
         return Ok(Plan::Refused(Refusal::Root));

@@ -60,7 +60,7 @@ pub fn list<M: Scan>(
     ensures small { IfOk result IsReply }
     ensures left { IsLeft M.KeyMap m.old m.new }
     ensures cause { HasMapCause (M.fault_count m.old) (M.fault_count m.new)
-        (M.bad m.new) NeverWorn result }
+        (M.last_failed m.new) (M.bad m.new) NeverWorn result }
 {
     match record(alloc, m, path)? {
         None => Ok(Reply::Refused(Refusal::NotFound)),
@@ -82,7 +82,7 @@ fn listing<M: Scan>(
     ensures few { IfOk result (λ listing. length listing.names ≤ listing_limit) }
     ensures left { IsLeft M.KeyMap m.old m.new }
     ensures cause { HasMapCause (M.fault_count m.old) (M.fault_count m.new)
-        (M.bad m.new) NeverWorn result }
+        (M.last_failed m.new) (M.bad m.new) NeverWorn result }
 {
     let within = path.key(alloc)?;
     let mut from = key_after(alloc, &within, after)?;

@@ -26,7 +26,7 @@ pub fn stat<M: KeyMap>(alloc: Global, m: &mut M, path: &Path) -> Result<Reply, M
     ensures small { IfOk result IsReply }
     ensures left { IsLeft M.KeyMap m.old m.new }
     ensures cause { HasMapCause (M.fault_count m.old) (M.fault_count m.new)
-        (M.bad m.new) NeverWorn result }
+        (M.last_failed m.new) (M.bad m.new) NeverWorn result }
 {
     match record(alloc, m, path)? {
         None => Ok(Reply::Refused(Refusal::NotFound)),
@@ -42,7 +42,7 @@ pub fn absent<M: KeyMap>(alloc: Global, m: &mut M, path: &Path) -> Result<Option
     ensures names { OnOk result (AreNames path.now) }
     ensures left { IsLeft M.KeyMap m.old m.new }
     ensures cause { HasMapCause (M.fault_count m.old) (M.fault_count m.new)
-        (M.bad m.new) NeverWorn result }
+        (M.last_failed m.new) (M.bad m.new) NeverWorn result }
 {
     match record(alloc, m, path)? {
         None => Ok(Some(Refusal::NotFound)),
@@ -61,7 +61,7 @@ pub fn unmakeable<M: KeyMap>(
     ensures names { OnOk result (AreNames path.now) }
     ensures left { IsLeft M.KeyMap m.old m.new }
     ensures cause { HasMapCause (M.fault_count m.old) (M.fault_count m.new)
-        (M.bad m.new) NeverWorn result }
+        (M.last_failed m.new) (M.bad m.new) NeverWorn result }
 {
     if record(alloc, m, path)?.is_some() {
         return Ok(Some(Refusal::Exists));
@@ -81,7 +81,7 @@ pub fn untakeable<M: KeyMap>(
     ensures names { OnOk result (AreNames b.now) }
     ensures left { IsLeft M.KeyMap m.old m.new }
     ensures cause { HasMapCause (M.fault_count m.old) (M.fault_count m.new)
-        (M.bad m.new) NeverWorn result }
+        (M.last_failed m.new) (M.bad m.new) NeverWorn result }
 {
     let taken = is_taken(alloc, m, a, b)?;
     if taken {
@@ -97,7 +97,7 @@ fn is_taken<M: KeyMap>(alloc: Global, m: &mut M, a: &Path, b: &Path) -> Result<b
     ensures names { OnOk result (AreNames b.now) }
     ensures left { IsLeft M.KeyMap m.old m.new }
     ensures cause { HasMapCause (M.fault_count m.old) (M.fault_count m.new)
-        (M.bad m.new) NeverWorn result }
+        (M.last_failed m.new) (M.bad m.new) NeverWorn result }
 {
     match record(alloc, m, b)? {
         None => Ok(false),
@@ -112,7 +112,7 @@ fn is_file<M: KeyMap>(alloc: Global, m: &mut M, path: &Path) -> Result<bool, Map
         → IfOk result (λ found. found ≡ has_file (get t path.now)) }
     ensures left { IsLeft M.KeyMap m.old m.new }
     ensures cause { HasMapCause (M.fault_count m.old) (M.fault_count m.new)
-        (M.bad m.new) NeverWorn result }
+        (M.last_failed m.new) (M.bad m.new) NeverWorn result }
 {
     match record(alloc, m, path)? {
         None | Some(Record::Dir(_)) => Ok(false),
@@ -127,7 +127,7 @@ fn above<M: KeyMap>(alloc: Global, m: &mut M, path: &Path) -> Result<Option<Refu
         refusal ≡ parent_refusal (option_and_then (get t) (parent_of path.now))) }
     ensures left { IsLeft M.KeyMap m.old m.new }
     ensures cause { HasMapCause (M.fault_count m.old) (M.fault_count m.new)
-        (M.bad m.new) NeverWorn result }
+        (M.last_failed m.new) (M.bad m.new) NeverWorn result }
 {
     match path.parent(alloc)? {
         None => Ok(Some(Refusal::NoParent)),
@@ -141,7 +141,7 @@ fn no_parent<M: KeyMap>(alloc: Global, m: &mut M, path: &Path) -> Result<Option<
         → IfOk result (λ refusal. refusal ≡ parent_refusal (get t path.now)) }
     ensures left { IsLeft M.KeyMap m.old m.new }
     ensures cause { HasMapCause (M.fault_count m.old) (M.fault_count m.new)
-        (M.bad m.new) NeverWorn result }
+        (M.last_failed m.new) (M.bad m.new) NeverWorn result }
 {
     match record(alloc, m, path)? {
         None => Ok(Some(Refusal::NoParent)),

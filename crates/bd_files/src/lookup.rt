@@ -24,7 +24,7 @@ pub fn record<M: KeyMap>(alloc: Global, m: &mut M, path: &Path) -> Result<Option
     ensures names { OnOk result (AreNames path.now) }
     ensures left { IsLeft M.KeyMap m.old m.new }
     ensures cause { HasMapCause (M.fault_count m.old) (M.fault_count m.new)
-        (M.bad m.new) NeverWorn result }
+        (M.last_failed m.new) (M.bad m.new) NeverWorn result }
 {
     let key = record_key(alloc, path)?;
     match m.get(&key)? {
@@ -44,7 +44,7 @@ pub fn file<M: KeyMap>(
     ensures names { OnOk result (AreNames path.now) }
     ensures left { IsLeft M.KeyMap m.old m.new }
     ensures cause { HasMapCause (M.fault_count m.old) (M.fault_count m.new)
-        (M.bad m.new) NeverWorn result }
+        (M.last_failed m.new) (M.bad m.new) NeverWorn result }
 {
     match record(alloc, m, path)? {
         None => Ok(Err(Refusal::NotFound)),

@@ -35,7 +35,7 @@ pub fn read<M: KeyMap>(
     ensures small { IfOk result IsReply }
     ensures left { IsLeft M.KeyMap m.old m.new }
     ensures cause { HasMapCause (M.fault_count m.old) (M.fault_count m.new)
-        (M.bad m.new) NeverWorn result }
+        (M.last_failed m.new) (M.bad m.new) NeverWorn result }
 {
     let (size, _) = match file(alloc, m, path)? {
         Ok(found) => found,
@@ -61,7 +61,7 @@ fn bytes_between<M: KeyMap>(
     ensures length { IfOk result (λ read. length read.items ≤ end - off) }
     ensures left { IsLeft M.KeyMap m.old m.new }
     ensures cause { HasMapCause (M.fault_count m.old) (M.fault_count m.new)
-        (M.bad m.new) NeverWorn result }
+        (M.last_failed m.new) (M.bad m.new) NeverWorn result }
 {
     let mut read = Vec::new(alloc);
     let mut place = off;
@@ -87,7 +87,7 @@ pub fn stored<M: KeyMap>(
         → IfOk result (λ found. found.items ≡ stored (M.has m.old) path.now block) }
     ensures left { IsLeft M.KeyMap m.old m.new }
     ensures cause { HasMapCause (M.fault_count m.old) (M.fault_count m.new)
-        (M.bad m.new) NeverWorn result }
+        (M.last_failed m.new) (M.bad m.new) NeverWorn result }
 {
     let key = block_key(alloc, path, block)?;
     match m.get(&key)? {

@@ -43,7 +43,7 @@ pub fn plan_truncate<M: KeyMap>(
     ensures ready { IfOk result IsReady }
     ensures left { IsLeft M.KeyMap m.old m.new }
     ensures cause { HasMapCause (M.fault_count m.old) (M.fault_count m.new)
-        (M.bad m.new) NeverWorn result }
+        (M.last_failed m.new) (M.bad m.new) NeverWorn result }
 {
     let (size, mode) = match file(alloc, m, path)? {
         Ok(found) => found,

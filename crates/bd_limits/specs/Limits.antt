@@ -98,6 +98,10 @@ full_edges = 15
 abbrev pub graft_size : ℕ
 graft_size = 1600
 
+-- the nodes that are cached: kept in memory since they were read from slots or written there
+abbrev pub cached_limit : ℕ
+cached_limit = 64
+
 -- the fewest slots of an image
 abbrev pub slot_minimum : ℕ
 slot_minimum = 24

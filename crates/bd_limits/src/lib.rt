@@ -6,7 +6,7 @@
 mod places;
 
 ghost use Rattle.std.specs.Prelude.{◌≡◌};
-ghost use Rattle.bd_limits.specs.Limits.{path_limit, name_limit, key_limit, block_limit, file_limit, mode_limit, write_limit, read_limit, listing_limit, line_limit, script_limit, piece_limit, buffer_limit, leaf_limit, level_limit, edge_limit, soft_limit, batch_limit, abundant_limit, late_limit, flush_limit, base_size, room_edges, full_edges, graft_size, slot_minimum, slot_limit, slot_size, block_size, first_slot_block, slot_blocks, table_slot_limit, log_blocks, body_block_limit};
+ghost use Rattle.bd_limits.specs.Limits.{path_limit, name_limit, key_limit, block_limit, file_limit, mode_limit, write_limit, read_limit, listing_limit, line_limit, script_limit, piece_limit, buffer_limit, leaf_limit, level_limit, edge_limit, soft_limit, batch_limit, abundant_limit, late_limit, flush_limit, base_size, room_edges, full_edges, graft_size, cached_limit, slot_minimum, slot_limit, slot_size, block_size, first_slot_block, slot_blocks, table_slot_limit, log_blocks, body_block_limit};
 
 pub use places::{
     FIRST_LOG_BLOCK, SECOND_LOG_BLOCK, TABLE_ENTRY_SIZE, TABLE_HEADER_SIZE, law_of_places,
@@ -87,6 +87,9 @@ pub const FULL_EDGES: usize = 15;
 /// The bytes for which there is room in the root before a graft.
 pub const GRAFT_SIZE: usize = 1600;
 
+/// The most nodes that are cached: kept in memory since they were read from slots or written there.
+pub const MAX_CACHED: usize = 64;
+
 /// The fewest slots of an image.
 pub const MIN_SLOTS: u32 = 24;
 
@@ -142,6 +145,7 @@ pub fn law_of_limits()
     ensures room { ROOM_EDGES ≡ room_edges }
     ensures full { FULL_EDGES ≡ full_edges }
     ensures graft { GRAFT_SIZE ≡ graft_size }
+    ensures cached { MAX_CACHED ≡ cached_limit }
     ensures fewest_slots { MIN_SLOTS ≡ slot_minimum }
     ensures slot { MAX_SLOTS ≡ slot_limit }
     ensures slot_size { SLOT_SIZE ≡ slot_size }

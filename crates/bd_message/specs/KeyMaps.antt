@@ -1,7 +1,7 @@
 -- What key maps have, what their calls need, and why they fail.
-use Rattle.std.specs.Prelude.{◌≡◌, ℕ, ◌≤◌, Bool, not, false, ◌&&◌, if◌then◌else◌, List, ◌++◌, length, Option, None, Some, IsSome, Result, OnOk, IfErr, All, ⊤}
+use Rattle.std.specs.Prelude.{◌≡◌, ℕ, ◌≤◌, Bool, not, false, IsTrue, ◌&&◌, if◌then◌else◌, List, ◌++◌, length, Option, None, Some, IsSome, Result, OnOk, IfErr, All, ⊤}
 use Rattle.std.specs.List.{sum_by}
-use Rattle.bd_io.specs.Cause.{Rose}
+use Rattle.bd_io.specs.Cause.{next_count}
 use Rattle.bd_keys.specs.Keys.{Begins, IsAtLeast, IsKey}
 use Rattle.bd_limits.specs.Limits.{key_limit, graft_size}
 use Rattle.bd_message.specs.declared.fault.Counter.{Counter}
@@ -62,13 +62,13 @@ pub record CanGraft (s d : List ℕ) (keep : Bool) (room : ℕ) : Type 0 where
   pub outside : keep ≡ false → ¬ Begins d s
   pub fits : graft_size ≤ room
 
--- a fault of the device is returned only where its count rose, damage only of a bad block, a worn
--- counter only where it is
-abbrev pub IsCause : ℕ → ℕ → (ℕ → Type 0) → (Counter → Type 0) → MapFault → Type 0
-IsCause before now bad worn DeviceFault = Rose before now
-IsCause before now bad worn (Damaged block) = bad block
-IsCause before now bad worn (Worn counter) = worn counter
-IsCause before now bad worn NoMemory = ⊤
+-- a fault of the device is that of its last call, and of no other; damage is returned only of a bad
+-- block, a worn counter only where it is
+abbrev pub IsCause : ℕ → ℕ → Bool → (ℕ → Type 0) → (Counter → Type 0) → MapFault → Type 0
+IsCause before now last bad worn DeviceFault = (now ≡ next_count before) × IsTrue last
+IsCause before now last bad worn (Damaged block) = bad block
+IsCause before now last bad worn (Worn counter) = worn counter
+IsCause before now last bad worn NoMemory = ⊤
 
 -- no counter is at its end
 abbrev pub NeverWorn : Counter → Type 0
@@ -82,13 +82,13 @@ StaysUnlessDevice before now (Worn _) = now ≡ before
 StaysUnlessDevice before now NoMemory = now ≡ before
 
 -- the count of faults never falls, and rises in no call but one that answers with the device's
--- fault; a call fails only for a cause
-pub record HasMapCause {T : Type 0} (before now : ℕ) (bad : ℕ → Type 0) (worn : Counter → Type 0)
-    (result : Result T MapFault) : Type 0 where
+-- fault; a call fails only for a cause; `last` says whether the last call of the device failed
+pub record HasMapCause {T : Type 0} (before now : ℕ) (last : Bool) (bad : ℕ → Type 0)
+    (worn : Counter → Type 0) (result : Result T MapFault) : Type 0 where
   pub later : before ≤ now
   pub kept : OnOk result (now ≡ before)
   pub stays : IfErr result (StaysUnlessDevice before now)
-  pub failed : IfErr result (IsCause before now bad worn)
+  pub failed : IfErr result (IsCause before now last bad worn)
 
 -- what a read leaves: what is known and has a value, the room, the loans; no counter comes nearer
 -- to its end

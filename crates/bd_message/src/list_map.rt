@@ -1,6 +1,6 @@
 //! A key map in memory.
 
-ghost use Rattle.std.specs.Prelude.{◌≡◌, ℕ, List, IfOk, ⊤};
+ghost use Rattle.std.specs.Prelude.{◌≡◌, ℕ, false, List, IfOk, ⊤};
 ghost use Rattle.std.specs.Option.{option_map, option_copied};
 ghost use Rattle.std.specs.FinMap.{empty};
 
@@ -54,6 +54,8 @@ impl KeyMap for ListMap {
     ghost room_of = { λ _. buffer_limit };
 
     ghost fault_count = { λ _. 0 };
+
+    ghost last_failed = { λ _. false };
 
     ghost bad = { λ _ _. ⊥ };
 

@@ -1,6 +1,6 @@
 //! The key map.
 
-ghost use Rattle.std.specs.Prelude.{◌≡◌, ℕ, List, [], ◌∷◌, Option, IfOk, OnOk, OnErr};
+ghost use Rattle.std.specs.Prelude.{◌≡◌, ℕ, Bool, List, [], ◌∷◌, Option, IfOk, OnOk, OnErr};
 ghost use Rattle.std.specs.Option.{option_map};
 ghost use Rattle.bd_message.specs.declared.fault.Counter.{Counter};
 ghost use Rattle.bd_message.specs.KeyMaps.{At, SameAt, IsNextEntry, IsBatch, CanGraft, IsApplied, IsGrafted, IsLeftBy, HasMapCause, NeverWorn};
@@ -22,6 +22,9 @@ pub trait KeyMap {
     /// How often what it stands on has failed, up to a u64's last value.
     ghost fault_count: { Self → ℕ };
 
+    /// Whether the last call that it made of what it stands on failed.
+    ghost last_failed: { Self → Bool };
+
     /// The blocks whose bytes aren't of the format.
     ghost bad: { Self → ℕ → Type 0 };
 
@@ -41,7 +44,7 @@ pub trait KeyMap {
             option_map (λ value. value.items) found ≡ has self.old key.now) }
         ensures left { IsLeftBy is_known has room_of worn reads loans self.old self.new }
         ensures cause { HasMapCause (fault_count self.old) (fault_count self.new)
-            (bad self.new) NeverWorn result };
+            (last_failed self.new) (bad self.new) NeverWorn result };
 
     /// The least key that is at least `from`, begins with `within` and has a value, and that value.
     fn next(&mut self, from: &[u8], within: &[u8]) -> Result<Option<(Vec<u8>, Vec<u8>)>, MapFault>
@@ -50,7 +53,7 @@ pub trait KeyMap {
             (option_map (λ entry. (entry.0.items, entry.1.items)) found)) }
         ensures left { IsLeftBy is_known has room_of worn reads loans self.old self.new }
         ensures cause { HasMapCause (fault_count self.old) (fault_count self.new)
-            (bad self.new) NeverWorn result };
+            (last_failed self.new) (bad self.new) NeverWorn result };
 
     /// For how many bytes of messages there is room.
     fn room(&self) -> usize
@@ -65,7 +68,7 @@ pub trait KeyMap {
         ensures kept { is_known self.old → OnErr result (SameAt (has self.old) (has self.new)) }
         ensures room { OnErr result (room_of self.new ≡ room_of self.old) }
         ensures cause { HasMapCause (fault_count self.old) (fault_count self.new)
-            (bad self.new) (worn self.old) result }
+            (last_failed self.new) (bad self.new) (worn self.old) result }
         ensures same_loans { loans self.new ≡ loans self.old };
 
     /// Gives each key `d x` what stands at `s x`, for all `x`; without `keep` nothing stays at the
@@ -78,7 +81,7 @@ pub trait KeyMap {
         ensures kept { is_known self.old → OnErr result (SameAt (has self.old) (has self.new)) }
         ensures room { OnErr result (room_of self.new ≡ room_of self.old) }
         ensures cause { HasMapCause (fault_count self.old) (fault_count self.new)
-            (bad self.new) (worn self.old) result }
+            (last_failed self.new) (bad self.new) (worn self.old) result }
         ensures same_loans { loans self.new ≡ loans self.old };
 
     /// How often what it stands on has failed. It never falls, and stays at a u64's last value.
@@ -100,6 +103,8 @@ impl<M: KeyMap> KeyMap for &mut M {
     ghost room_of = { λ m. M.room_of m.now };
 
     ghost fault_count = { λ m. M.fault_count m.now };
+
+    ghost last_failed = { λ m. M.last_failed m.now };
 
     ghost bad = { λ m. M.bad m.now };
 

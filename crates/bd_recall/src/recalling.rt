@@ -24,6 +24,8 @@ impl<M: KeyMap> KeyMap for Recalling<M> {
 
     ghost fault_count = { λ r. M.fault_count r.map };
 
+    ghost last_failed = { λ r. M.last_failed r.map };
+
     ghost bad = { λ r. M.bad r.map };
 
     ghost worn = { λ r. M.worn r.map };

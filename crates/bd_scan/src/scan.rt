@@ -34,7 +34,7 @@ pub trait Scan: KeyMap {
         ensures left { IsLeftBy Self.is_known Self.has Self.room_of Self.worn Self.reads Self.loans
             self.old self.new }
         ensures cause { HasMapCause (Self.fault_count self.old) (Self.fault_count self.new)
-            (Self.bad self.new) NeverWorn result };
+            (Self.last_failed self.new) (Self.bad self.new) NeverWorn result };
 }
 
 impl<M: Scan> Scan for &mut M {
