@@ -276,13 +276,13 @@ on_privatised nodes mid t w parent place e child copy new u r h same table made 
     (subst (λ (v : Table). OnOk r (IsMadeBy (IsCopyStep v.root v.next parent place copy) nodes v new u)) table
     (subst (λ (f : Nodes). OnOk r (IsMadeBy (IsCopyStep w.root w.next parent place copy) f w new u)) same made))
 
-pub copy_cause : {T : Type 0} (before mid now : ℕ) (bad : ℕ → Type 0) (known : Type 0) (nodes : Nodes) (t v w : Table) (parent : Fetched) (place : ℕ) (e : Edge) (id : ℕ) (child : Fetched) (shown : Node) (s : List ℕ) (copy : Node) (r : Result T MapFault) → mid ≡ before → IsCopying t v parent place e id child shown s copy
-    → (known → IsCopyThere nodes t parent place e child copy) → w ≡ t → HasMapCause mid now bad (IsWornFor (IsCopyStep w.root w.next parent place copy) ⊥ w) r → HasMapCause before now bad (IsWornFor (IsPrivatiseStep known nodes t parent place) ⊥ t) r
-copy_cause before mid now bad known nodes t v w parent place e id child shown s copy r same h there table cause =
-    worn_wider before now bad (IsCopyStep t.root t.next parent place copy) (IsPrivatiseStep known nodes t parent place) ⊥ ⊥ t r
+pub copy_cause : {T : Type 0} (before mid now : ℕ) (last : Bool) (bad : ℕ → Type 0) (known : Type 0) (nodes : Nodes) (t v w : Table) (parent : Fetched) (place : ℕ) (e : Edge) (id : ℕ) (child : Fetched) (shown : Node) (s : List ℕ) (copy : Node) (r : Result T MapFault) → mid ≡ before → IsCopying t v parent place e id child shown s copy
+    → (known → IsCopyThere nodes t parent place e child copy) → w ≡ t → HasMapCause mid now last bad (IsWornFor (IsCopyStep w.root w.next parent place copy) ⊥ w) r → HasMapCause before now last bad (IsWornFor (IsPrivatiseStep known nodes t parent place) ⊥ t) r
+copy_cause before mid now last bad known nodes t v w parent place e id child shown s copy r same h there table cause =
+    worn_wider before now last bad (IsCopyStep t.root t.next parent place copy) (IsPrivatiseStep known nodes t parent place) ⊥ ⊥ t r
     (λ step is. privatise_step known nodes t parent place e child copy step (copy_read t v parent place e id child shown s copy h) there is) (λ no. no)
-    (cause_after before mid now bad (IsWornFor (IsCopyStep t.root t.next parent place copy) ⊥ t) r same
-    (subst (λ (x : Table). HasMapCause mid now bad (IsWornFor (IsCopyStep x.root x.next parent place copy) ⊥ x) r) table cause))
+    (cause_after before mid now last bad (IsWornFor (IsCopyStep t.root t.next parent place copy) ⊥ t) r same
+    (subst (λ (x : Table). HasMapCause mid now last bad (IsWornFor (IsCopyStep x.root x.next parent place copy) ⊥ x) r) table cause))
 
 -- ---- visits
 

@@ -50,7 +50,7 @@ pub fn put_copy<S: NodeStore>(
         (S.visit_count store.new ≡ visited (S.visit_count store.old) 1) }
     ensures err_visits { OnErr result (S.visit_count store.new ≡ S.visit_count store.old) }
     ensures cause { HasMapCause (S.fault_count store.old) (S.fault_count store.new)
-        (S.bad store.new) (IsWornFor (IsCopyStep (S.table store.old).root
+        (S.last_failed store.new) (S.bad store.new) (IsWornFor (IsCopyStep (S.table store.old).root
         (S.table store.old).next parent.now place copy) ⊥ (S.table store.old)) result }
 {
     let root = store.root();

@@ -52,8 +52,9 @@ pub fn privatise<S: NodeStore>(
         → e.child ≡ Some child → S.visit_count store.new
         ≤ S.visit_count store.old + (2 + 17 * (S.table store.old).level child) }
     ensures cause { HasMapCause (S.fault_count store.old) (S.fault_count store.new)
-        (S.bad store.new) (IsWornFor (IsPrivatiseStep (AreKnown S.NodeStore store.old)
-        (S.nodes store.old) (S.table store.old) parent.now place) ⊥ (S.table store.old)) result }
+        (S.last_failed store.new) (S.bad store.new)
+        (IsWornFor (IsPrivatiseStep (AreKnown S.NodeStore store.old) (S.nodes store.old)
+        (S.table store.old) parent.now place) ⊥ (S.table store.old)) result }
 {
     let edge = &parent.node.edges()[place];
     let Some(id) = edge.child else { unreachable!() };
@@ -79,7 +80,7 @@ fn freed<S: NodeStore>(
     ensures bytes { IsKey s.now }
     ensures left { OnlyReads S.NodeStore store.old store.new }
     ensures cause { HasMapCause (S.fault_count store.old) (S.fault_count store.new)
-        (S.bad store.new) NeverWorn result }
+        (S.last_failed store.new) (S.bad store.new) NeverWorn result }
     ensures few_visits { S.visit_count store.new
         ≤ S.visit_count store.old + 17 * level_of node.now }
 {

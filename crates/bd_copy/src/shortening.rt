@@ -31,7 +31,7 @@ pub fn shorten<S: NodeStore>(alloc: Global, store: &mut S, node: &Node) -> Resul
         → node_at (at (S.nodes store.old)) made k ≡ node_at (at (S.nodes store.old)) node.now k)) }
     ensures left { OnlyReads S.NodeStore store.old store.new }
     ensures cause { HasMapCause (S.fault_count store.old) (S.fault_count store.new)
-        (S.bad store.new) NeverWorn result }
+        (S.last_failed store.new) (S.bad store.new) NeverWorn result }
     ensures few_visits { S.visit_count store.new ≤ S.visit_count store.old
         + (sum_by (λ e. way_visits (S.table store.old) (edge_way e)) (edges_of node.now)
         + sum_by (λ m. way_visits (S.table store.old) (goto_way m)) (buffer_of node.now)) }
@@ -67,7 +67,7 @@ fn short_edges<S: NodeStore>(
         (IfOk result (λ made. AllZip (IsSameEdge (S.nodes store.old)) edges.now made.items)) }
     ensures left { OnlyReads S.NodeStore store.old store.new }
     ensures cause { HasMapCause (S.fault_count store.old) (S.fault_count store.new)
-        (S.bad store.new) NeverWorn result }
+        (S.last_failed store.new) (S.bad store.new) NeverWorn result }
     ensures few_visits { S.visit_count store.new ≤ S.visit_count store.old
         + sum_by (λ e. way_visits (S.table store.old) (edge_way e)) edges.now }
 {
@@ -91,7 +91,7 @@ fn short_messages<S: NodeStore>(
         (IfOk result (λ made. AllZip (IsSameMessage (S.nodes store.old)) list.now made.items)) }
     ensures left { OnlyReads S.NodeStore store.old store.new }
     ensures cause { HasMapCause (S.fault_count store.old) (S.fault_count store.new)
-        (S.bad store.new) NeverWorn result }
+        (S.last_failed store.new) (S.bad store.new) NeverWorn result }
     ensures few_visits { S.visit_count store.new ≤ S.visit_count store.old
         + sum_by (λ m. way_visits (S.table store.old) (goto_way m)) list.now }
 {
@@ -110,7 +110,7 @@ fn short_edge<S: NodeStore>(alloc: Global, store: &mut S, edge: &Edge) -> Result
         (IfOk result (IsSameEdge (S.nodes store.old) edge.now)) }
     ensures left { OnlyReads S.NodeStore store.old store.new }
     ensures cause { HasMapCause (S.fault_count store.old) (S.fault_count store.new)
-        (S.bad store.new) NeverWorn result }
+        (S.last_failed store.new) (S.bad store.new) NeverWorn result }
     ensures few_visits { S.visit_count store.new
         ≤ S.visit_count store.old + way_visits (S.table store.old) (edge_way edge.now) }
 {
@@ -133,7 +133,7 @@ fn short_message<S: NodeStore>(
         (IfOk result (IsSameMessage (S.nodes store.old) message.now)) }
     ensures left { OnlyReads S.NodeStore store.old store.new }
     ensures cause { HasMapCause (S.fault_count store.old) (S.fault_count store.new)
-        (S.bad store.new) NeverWorn result }
+        (S.last_failed store.new) (S.bad store.new) NeverWorn result }
     ensures few_visits { S.visit_count store.new
         ≤ S.visit_count store.old + way_visits (S.table store.old) (goto_way message.now) }
 {
@@ -167,7 +167,7 @@ fn short_way<S: NodeStore>(
         ≡ at (S.nodes store.old) child (source.now ++ k))) }
     ensures left { OnlyReads S.NodeStore store.old store.new }
     ensures cause { HasMapCause (S.fault_count store.old) (S.fault_count store.new)
-        (S.bad store.new) NeverWorn result }
+        (S.last_failed store.new) (S.bad store.new) NeverWorn result }
     ensures few_visits { S.visit_count store.new ≤ S.visit_count store.old
         + way_visits (S.table store.old) (target_of (Some child) source.now) }
 {

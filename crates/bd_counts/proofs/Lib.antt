@@ -3,5 +3,7 @@ pub mod Overlays
 pub mod Releasing
 pub mod Settling
 pub mod Recounting
+pub mod Accounts
+pub mod Causes
 pub mod Loops
 pub mod Worn

@@ -1,5 +1,6 @@
 -- Counts while names are taken back.
 use Rattle.std.proofs.Common.{◌≡◌, ℕ, ◌+◌, ◌<◌, ◌≤◌, sym, ap, subst, ◌∙◌, arith, inl, inr, List, [], ◌∷◌, ◌++◌, length, Option, None, Some, Result, Ok, Err, IfOk, IfSome, cond, eqb}
+use Rattle.std.specs.Prelude.{IfNone}
 use Rattle.std.specs.List.{sum_by}
 use Rattle.std.proofs.lemmas.Bool.{cases_eq, cases_lt, cond-true, cond-false, eq-eqb, ne_eqb}
 use Rattle.bd_node.specs.declared.node.Node.{Node}
@@ -140,7 +141,7 @@ recount_last t step id counts new gone new_gone less zero below_root pushed h =
           ];
     }
 
-owed_pushed : (owed all : List ℕ) (id : ℕ) → all ≡ owed ++ id ∷ [] → (c : ℕ) → times_among all c ≡ one_if id c + times_among owed c
+pub owed_pushed : (owed all : List ℕ) (id : ℕ) → all ≡ owed ++ id ∷ [] → (c : ℕ) → times_among all c ≡ one_if id c + times_among owed c
 owed_pushed owed all id is c = let e : times_among all c ≡ times_among owed c + one_if id c = times_pushed owed all id is c in omega arith
 
 pub owing_one : (nodes : Nodes) (t : Table) (step : Step) (id : ℕ) (counts new : ℕ → ℕ) (owed all : List ℕ) → IsLess id counts new → 1 ≤ new id → all ≡ owed ++ id ∷ []
@@ -218,3 +219,9 @@ pub found_weaker : {A E : Type 0} (P Q : A → Type 0) (r : Result (Option A) E)
 found_weaker P Q (Ok (Some x)) f h = f x h
 found_weaker P Q (Ok None) f h = tt
 found_weaker P Q (Err e) f h = tt
+
+-- where none is found
+pub none_weaker : {A E : Type 0} (P Q : Type 0) (r : Result (Option A) E) → (P → Q) → IfOk r (λ o. IfNone o P) → IfOk r (λ o. IfNone o Q)
+none_weaker P Q (Ok (Some x)) f h = tt
+none_weaker P Q (Ok None) f h = f h
+none_weaker P Q (Err e) f h = tt

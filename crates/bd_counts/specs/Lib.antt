@@ -1,4 +1,5 @@
 pub mod Naming
 pub mod Releasing
 pub mod Counting
+pub mod Reading
 pub mod Frames

@@ -1,6 +1,6 @@
 //! What is asked before a step is made: counts, and the contents of nodes.
 
-ghost use Rattle.std.specs.Prelude.{◌≡◌, ℕ, List, [], Some, IfOk};
+ghost use Rattle.std.specs.Prelude.{◌≡◌, ℕ, Bool, List, [], Some, IfOk};
 ghost use Rattle.bd_message.specs.KeyMaps.{HasMapCause, NeverWorn};
 ghost use Rattle.bd_node.specs.declared.node.Node.{Node};
 ghost use Rattle.bd_node.specs.Nodes.{level_of};
@@ -30,8 +30,11 @@ pub trait Counted {
     /// How often what it stands on has failed, up to a u64's last value.
     ghost fault_count: { Self → ℕ };
 
-    /// The blocks whose bytes aren't of the format.
-    ghost bad: { Self → ℕ → Type 0 };
+    /// Whether the last call that it made of what it stands on failed.
+    ghost last_failed: { Self → Bool };
+
+    /// The blocks whose bytes aren't of the format, for the node of an id.
+    ghost bad: { Self → ℕ → ℕ → Type 0 };
 
     /// What reads may change: from the first to the second only what is kept in memory and what is
     /// counted has changed.
@@ -50,7 +53,7 @@ pub trait Counted {
         ensures left { OnlyReadsBy is_known nodes table reads loans self.old self.new }
         ensures visits { visit_count self.new ≡ visit_count self.old }
         ensures cause { HasMapCause (fault_count self.old) (fault_count self.new)
-            (bad self.new) NeverWorn result };
+            (last_failed self.new) (bad self.new id) NeverWorn result };
 
     /// How often a node is named: 0 where it isn't kept.
     fn count(&self, id: u64) -> u64

@@ -1,12 +1,13 @@
 //! What a step makes of the counts, found before anything is changed.
 
-ghost use Rattle.std.specs.Prelude.{◌≡◌, ℕ, ◌++◌, ◌∷◌, [], true, IfOk, IfSome, IsSome, Ok};
+ghost use Rattle.std.specs.Prelude.{◌≡◌, ℕ, ◌++◌, ◌∷◌, [], true, IfOk, IfSome, IfNone, IsSome, Ok};
+ghost use Rattle.std.specs.Bool.{MatchBool};
 ghost use Rattle.bd_message.specs.KeyMaps.{HasMapCause, NeverWorn};
 ghost use Rattle.bd_node.specs.Tables.{IsTable, one_if};
 ghost use Rattle.bd_node.specs.Steps.{IsStep, StayAbove, IsWornBy};
 ghost use Rattle.bd_counts.specs.Counting.{IsRecount, MakesTable, Commits, IsOwing};
 ghost use Rattle.bd_counts.specs.Releasing.{IsLess};
-ghost use Rattle.bd_counts.specs.Frames.{OnlyReads, OfSound, counts_over};
+ghost use Rattle.bd_counts.specs.Frames.{OnlyReads, OfSound, counts_over, IsBadFor, IsTooLow, IsAccount};
 
 use crate::counted::Counted;
 use crate::owing::{owed_names, push_left};
@@ -26,8 +27,9 @@ pub struct NewCounts {
 }
 
 /// What a step makes of the counts. It reads what the changed nodes were and the nodes that go,
-/// each once, and changes nothing. `None` where the counts show that the nodes aren't sound, since
-/// one would fall below 0, or the new root's to 0. `Worn(Refs)` where one would pass its last value.
+/// each once and no others, and changes nothing. `None` where the counts show that the nodes aren't
+/// sound, since one would fall below 0, or the new root's to 0. `Worn(Refs)` where one would pass
+/// its last value.
 pub fn recount<S: Counted>(
     alloc: Global,
     source: &mut S,
@@ -43,13 +45,15 @@ pub fn recount<S: Counted>(
         MakesTable (S.table source.old) step.now
         (counts_over S.Counted source.old recount.counts))) }
     ensures found { OfSound S.Counted source.old (IfOk result (λ found. IsSome found)) }
+    ensures low { IfOk result (λ found. IfNone found (IsTooLow S.Counted source.old step.now)) }
     ensures commits { OfSound S.Counted source.old (IfOk result (λ found. IfSome found (λ recount.
         Commits (S.nodes source.old) (S.table source.old) step.now
         (counts_over S.Counted source.old recount.counts)))) }
     ensures left { OnlyReads S.Counted source.old source.new }
     ensures visits { S.visit_count source.new ≡ S.visit_count source.old }
     ensures cause { HasMapCause (S.fault_count source.old) (S.fault_count source.new)
-        (S.bad source.new) (IsWornBy (S.table source.old) step.now) result }
+        (S.last_failed source.new) (IsBadFor S.Counted source.old step.now source.new)
+        (IsWornBy (S.table source.old) step.now) result }
 {
     let counts = raised(alloc, &*source, step)?;
     let owed = owed_names(alloc, source, step)?;
@@ -73,17 +77,21 @@ fn settled<S: Counted>(
         (counts_over S.Counted source.old recount.counts) recount.gone.items }
     requires owing { OfSound S.Counted source.old (IsOwing (S.nodes source.old) (S.table source.old)
         step.now (counts_over S.Counted source.old recount.counts) owed.items) }
+    requires account { IsAccount S.Counted source.old step.now recount.counts recount.gone.items
+        owed.items }
     ensures counts { IfOk result (λ found. IfSome found (λ recount.
         IsRecount (S.table source.old) step.now (counts_over S.Counted source.old recount.counts)
         recount.gone.items)) }
     ensures found { OfSound S.Counted source.old (IfOk result (λ found. IsSome found)) }
+    ensures low { IfOk result (λ found. IfNone found (IsTooLow S.Counted source.old step.now)) }
     ensures settled { OfSound S.Counted source.old (IfOk result (λ found. IfSome found (λ recount.
         IsOwing (S.nodes source.old) (S.table source.old) step.now
         (counts_over S.Counted source.old recount.counts) []))) }
     ensures left { OnlyReads S.Counted source.old source.new }
     ensures visits { S.visit_count source.new ≡ S.visit_count source.old }
     ensures cause { HasMapCause (S.fault_count source.old) (S.fault_count source.new)
-        (S.bad source.new) NeverWorn result }
+        (S.last_failed source.new) (IsBadFor S.Counted source.old step.now source.new)
+        NeverWorn result }
 {
     let mut recount = recount;
     let mut owed = owed;
@@ -105,6 +113,8 @@ fn take_back<S: Counted>(
 ) -> Result<bool, MapFault>
     requires counts { IsRecount (S.table source.old) step.now
         (counts_over S.Counted source.old recount.old.counts) recount.old.gone.items }
+    requires account { IsAccount S.Counted source.old step.now recount.old.counts
+        recount.old.gone.items (owed.old.items ++ id ∷ []) }
     ensures counts { result ≡ Ok true → IsRecount (S.table source.old) step.now
         (counts_over S.Counted source.old recount.new.counts) recount.new.gone.items }
     ensures less { result ≡ Ok true
@@ -116,10 +126,14 @@ fn take_back<S: Counted>(
         → IfOk result (λ taken. (taken ≡ true)
         × IsOwing (S.nodes source.old) (S.table source.old) step.now
         (counts_over S.Counted source.old recount.new.counts) owed.new.items)) }
+    ensures account { IfOk result (λ taken. MatchBool taken (IsAccount S.Counted source.old step.now
+        recount.new.counts recount.new.gone.items owed.new.items)
+        (IsTooLow S.Counted source.old step.now)) }
     ensures left { OnlyReads S.Counted source.old source.new }
     ensures visits { S.visit_count source.new ≡ S.visit_count source.old }
     ensures cause { HasMapCause (S.fault_count source.old) (S.fault_count source.new)
-        (S.bad source.new) NeverWorn result }
+        (S.last_failed source.new) (IsBadFor S.Counted source.old step.now source.new)
+        NeverWorn result }
 {
     let count = count_of(&*source, &recount.counts, id);
     if count <= least_count(step, id) {

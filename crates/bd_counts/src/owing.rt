@@ -8,7 +8,7 @@ ghost use Rattle.bd_node.specs.declared.node.Change.{Change};
 ghost use Rattle.bd_node.specs.Tables.{IsTable, times_in, one_if};
 ghost use Rattle.bd_node.specs.Steps.{changed_at, given, after, IsStep, IsThere};
 ghost use Rattle.bd_counts.specs.Naming.{times_among};
-ghost use Rattle.bd_counts.specs.Frames.{OnlyReads};
+ghost use Rattle.bd_counts.specs.Frames.{OnlyReads, IsBadFor};
 
 use crate::counted::Counted;
 use crate::naming::push_node;
@@ -16,7 +16,7 @@ use bd_message::MapFault;
 use bd_node::{Change, Node, Step};
 use std::alloc::Global;
 
-/// The names in what the changed nodes were, and the old root.
+/// The names in what the changed nodes were, and the old root. It reads these nodes alone.
 pub fn owed_names<S: Counted>(
     alloc: Global,
     source: &mut S,
@@ -30,7 +30,8 @@ pub fn owed_names<S: Counted>(
     ensures left { OnlyReads S.Counted source.old source.new }
     ensures visits { S.visit_count source.new ≡ S.visit_count source.old }
     ensures cause { HasMapCause (S.fault_count source.old) (S.fault_count source.new)
-        (S.bad source.new) NeverWorn result }
+        (S.last_failed source.new) (IsBadFor S.Counted source.old step.now source.new)
+        NeverWorn result }
 {
     let mut owed = Vec::new(alloc);
     owed.push(source.root())?;
@@ -55,7 +56,7 @@ pub fn push_left<S: Counted>(
     ensures left { OnlyReads S.Counted source.old source.new }
     ensures visits { S.visit_count source.new ≡ S.visit_count source.old }
     ensures cause { HasMapCause (S.fault_count source.old) (S.fault_count source.new)
-        (S.bad source.new) NeverWorn result }
+        (S.last_failed source.new) (S.bad source.new id) NeverWorn result }
 {
     let next = source.next_id();
     if let Some(node) = given(step, next, id) {

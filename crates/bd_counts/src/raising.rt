@@ -24,7 +24,7 @@ pub fn raised<S: Counted>(
     ensures counts { IfOk result (λ counts. (c : ℕ) → counts_over S.Counted source.now counts c
         ≡ (S.table source.now).count c + times_among (step_names step.now) c) }
     ensures cause { HasMapCause (S.fault_count source.now) (S.fault_count source.now)
-        (S.bad source.now) (IsWornBy (S.table source.now) step.now) result }
+        (S.last_failed source.now) (λ _. ⊥) (IsWornBy (S.table source.now) step.now) result }
 {
     let names = named_by(alloc, step)?;
     raise(alloc, source, names.as_slice())
@@ -41,7 +41,8 @@ pub fn added<S: Counted>(
     ensures counts { IfOk result (λ counts. (c : ℕ) → counts_over S.Counted source.now counts c
         ≡ (S.table source.now).count c + added_times made.now list.now c) }
     ensures cause { HasMapCause (S.fault_count source.now) (S.fault_count source.now)
-        (S.bad source.now) (IsWornByAdding (S.table source.now) made.now list.now) result }
+        (S.last_failed source.now) (λ _. ⊥)
+        (IsWornByAdding (S.table source.now) made.now list.now) result }
 {
     let names = added_by(alloc, made, list)?;
     raise(alloc, source, names.as_slice())
@@ -56,7 +57,8 @@ fn raise<S: Counted>(
     ensures counts { IfOk result (λ counts. (c : ℕ) → counts_over S.Counted source.now counts c
         ≡ (S.table source.now).count c + times_among names.now c) }
     ensures cause { HasMapCause (S.fault_count source.now) (S.fault_count source.now)
-        (S.bad source.now) (IsWornByNames (S.table source.now).count names.now) result }
+        (S.last_failed source.now) (λ _. ⊥)
+        (IsWornByNames (S.table source.now).count names.now) result }
 {
     let mut counts: HashMap<u64, u64> = HashMap::new(alloc);
     for name in names {

@@ -1,5 +1,5 @@
 -- The commit that changes an edge all of whose keys a message decides.
-use Rattle.std.proofs.Common.{◌≡◌, ℕ, ◌+◌, ◌<◌, ◌≤◌, [], length, sym, ap, subst, ◌∙◌, Some, arith, inl, inr, Result, Ok, Err}
+use Rattle.std.proofs.Common.{◌≡◌, ℕ, Bool, ◌+◌, ◌<◌, ◌≤◌, [], length, sym, ap, subst, ◌∙◌, Some, arith, inl, inr, Result, Ok, Err}
 use Rattle.std.specs.Prelude.{OnOk, OnErr}
 use Rattle.std.proofs.lemmas.Bool.{cases_eq}
 use Rattle.std.proofs.lemmas.Option.{same_Some}
@@ -194,9 +194,9 @@ pub on_no_higher : {T E : Type 0} (t : Table) (node : Fetched) (place at : ℕ) 
 on_no_higher t node place at step u (Ok x) h after = no_higher t node place at step u h after
 on_no_higher t node place at step u (Err e) h after = tt
 
-pub decide_worn : {T : Type 0} (before now : ℕ) (bad : ℕ → Type 0) (t : Table) (node : Fetched) (place at : ℕ) (step : Step) (r : Result T MapFault) → IsToDecide t node place at step → HasMapCause before now bad (IsWornBy t step) r → HasMapCause before now bad (WearsOut (IsDecideStep t.root node place at) t) r
-decide_worn before now bad t node place at step r h cause =
-    cause_weaker before now bad (IsWornBy t step) (WearsOut (IsDecideStep t.root node place at) t) (λ counter worn. record { step = step; is = h.decide; worn = worn }) r cause
+pub decide_worn : {T : Type 0} (before now : ℕ) (last : Bool) (bad : ℕ → Type 0) (t : Table) (node : Fetched) (place at : ℕ) (step : Step) (r : Result T MapFault) → IsToDecide t node place at step → HasMapCause before now last bad (IsWornBy t step) r → HasMapCause before now last bad (WearsOut (IsDecideStep t.root node place at) t) r
+decide_worn before now last bad t node place at step r h cause =
+    cause_weaker before now last bad (IsWornBy t step) (WearsOut (IsDecideStep t.root node place at) t) (λ counter worn. record { step = step; is = h.decide; worn = worn }) r cause
 
 pub decide_visits : {T E : Type 0} (t : Table) (node : Fetched) (place at : ℕ) (step : Step) (before now : ℕ) (r : Result T E) → IsToDecide t node place at step → OnOk r (now ≡ visited before (length step.made)) → (OnErr r (now ≡ before)) → now ≤ before
 decide_visits t node place at step before now (Ok x) h is err =

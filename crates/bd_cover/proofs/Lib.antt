@@ -4,6 +4,7 @@ pub mod Joins
 pub mod Decided
 pub mod Falls
 pub mod Decisions
+pub mod Entered
 pub mod Shrinks
 pub mod WaysUp
 pub mod Looks

@@ -1,5 +1,5 @@
 -- The commit that makes another node the root.
-use Rattle.std.proofs.Common.{◌≡◌, ℕ, zero, suc, ◌+◌, ◌<◌, ◌≤◌, List, [], ◌∷◌, ◌++◌, drop, refl, sym, ap, subst, ◌∙◌, Option, None, Some, arith, inl, inr, Result, Ok, Err}
+use Rattle.std.proofs.Common.{◌≡◌, ℕ, Bool, zero, suc, ◌+◌, ◌<◌, ◌≤◌, List, [], ◌∷◌, ◌++◌, drop, refl, sym, ap, subst, ◌∙◌, Option, None, Some, arith, inl, inr, Result, Ok, Err}
 use Rattle.std.specs.Prelude.{OnOk}
 use Rattle.std.proofs.lemmas.Bool.{cases_eq, cases_lt, cases_Bool, cond-true, cond-false}
 use Rattle.std.proofs.lemmas.Option.{none-some}
@@ -176,7 +176,7 @@ shrunk nodes mid t m child step new u r h sound lower thin after committed =
     (subst (λ (v : Table). OnOk r (IsCommitted nodes v (root_only child) new u)) h.table_is
     (subst (λ (f : Nodes). OnOk r (IsCommitted f m (root_only child) new u)) h.nodes_are (subst (λ (q : Step). OnOk r (IsCommitted mid m q new u)) h.step_is (committed again))))
 
-pub shrink_cause : {T : Type 0} (before mid now : ℕ) (bad : ℕ → Type 0) (t m : Table) (child : ℕ) (step : Step) (r : Result T MapFault) → mid ≡ before → m ≡ t → step ≡ root_only child → HasMapCause mid now bad (IsWornBy m step) r → HasMapCause before now bad (IsWornBy t (root_only child)) r
-shrink_cause before mid now bad t m child step r same table step_is cause =
-    cause_after before mid now bad (IsWornBy t (root_only child)) r same
-    (subst (λ (v : Table). HasMapCause mid now bad (IsWornBy v (root_only child)) r) table (subst (λ (q : Step). HasMapCause mid now bad (IsWornBy m q) r) step_is cause))
+pub shrink_cause : {T : Type 0} (before mid now : ℕ) (last : Bool) (bad : ℕ → Type 0) (t m : Table) (child : ℕ) (step : Step) (r : Result T MapFault) → mid ≡ before → m ≡ t → step ≡ root_only child → HasMapCause mid now last bad (IsWornBy m step) r → HasMapCause before now last bad (IsWornBy t (root_only child)) r
+shrink_cause before mid now last bad t m child step r same table step_is cause =
+    cause_after before mid now last bad (IsWornBy t (root_only child)) r same
+    (subst (λ (v : Table). HasMapCause mid now last bad (IsWornBy v (root_only child)) r) table (subst (λ (q : Step). HasMapCause mid now last bad (IsWornBy m q) r) step_is cause))

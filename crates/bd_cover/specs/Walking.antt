@@ -1,10 +1,10 @@
 -- The walk that looks for a change, and the first one that it finds.
-use Rattle.std.specs.Prelude.{◌≡◌, ℕ, zero, suc, Bool, IsTrue, ◌<◌, ◌≤◌, nat_lt, ◌==◌, ◌&&◌, if◌then◌else◌, List, [], ◌∷◌, reverse, Option, None, Some, slice_get, ⊤}
+use Rattle.std.specs.Prelude.{◌≡◌, ℕ, zero, suc, Bool, IsTrue, ◌⊎◌, ◌<◌, ◌≤◌, nat_lt, ◌==◌, ◌&&◌, if◌then◌else◌, List, [], ◌∷◌, reverse, Option, None, Some, slice_get, ⊤}
 use Rattle.std.specs.List.{sum_by, AllByRecursion}
 use Rattle.bd_node.specs.declared.node.Edge.{Edge}
 use Rattle.bd_node.specs.declared.node.Node.{Node}
 use Rattle.bd_node.specs.Meaning.{Nodes}
-use Rattle.bd_node.specs.Tables.{Table, IsLower}
+use Rattle.bd_node.specs.Tables.{Table, IsKept, IsLower}
 use Rattle.bd_node.specs.Parts.{edges_of, buffer_of, IsEdgeAt}
 use Rattle.bd_path.specs.declared.fetching.Fetched.{Fetched}
 use Rattle.bd_path.specs.Fetching.{IsFetched, IsContents, IsEdgeTo, IsOwn, AreOwn}
@@ -100,6 +100,20 @@ IsFirstAt pushes t f (Push above node place) =
 abbrev pub HasNone : Bool → Nodes → Table → ℕ → Type 0
 HasNone pushes nodes t from = (id : ℕ) (n : Node) → IsUnder nodes t id from → nodes id ≡ Some n
     → IsClean pushes t id n
+
+-- so it is of the nodes of a set that are no higher than a level
+abbrev pub AreCleanUpTo : Bool → Nodes → Table → (ℕ → Bool) → ℕ → Type 0
+AreCleanUpTo pushes nodes t among level = (id : ℕ) → IsTrue (among id) → t.level id ≤ level
+    → HasNone pushes nodes t id
+
+-- and of each node that a larger set has beside those of another one
+abbrev pub AddsClean : Bool → Nodes → Table → (ℕ → Bool) → (ℕ → Bool) → Type 0
+AddsClean pushes nodes t old new = (id : ℕ) → IsTrue (new id)
+    → IsTrue (old id) ⊎ HasNone pushes nodes t id
+
+-- the nodes of a set are kept
+abbrev pub AreKept : Table → (ℕ → Bool) → Type 0
+AreKept t among = (id : ℕ) → IsTrue (among id) → IsKept t id
 
 -- nor below the edges before a place
 abbrev pub HasNoneBefore : Bool → Nodes → Table → List Edge → ℕ → Type 0

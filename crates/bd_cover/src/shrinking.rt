@@ -40,7 +40,8 @@ pub fn shrink<S: NodeStore>(alloc: Global, store: &mut S, child: u64) -> Result<
     ensures err { OnErr result (OnlyReads S.NodeStore store.old store.new) }
     ensures few_visits { S.visit_count store.new ≤ S.visit_count store.old + 1 }
     ensures cause { HasMapCause (S.fault_count store.old) (S.fault_count store.new)
-        (S.bad store.new) (IsWornBy (S.table store.old) (root_only child)) result }
+        (S.last_failed store.new) (S.bad store.new)
+        (IsWornBy (S.table store.old) (root_only child)) result }
 {
     fetch(store, child)?;
     store.commit(root_only(alloc, child))

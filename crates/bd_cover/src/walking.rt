@@ -1,13 +1,14 @@
 //! The walk that looks for the first change to make.
 
-ghost use Rattle.std.specs.Prelude.{◌≡◌, ℕ, ◌<◌, ◌≤◌, ◌+◌, IfOk, IfSome, MatchOption, Some};
+ghost use Rattle.std.specs.Prelude.{◌≡◌, ℕ, ◌<◌, ◌≤◌, ◌+◌, ⊤, IfOk, IfSome, MatchOption, Some, nat_eq};
+ghost use Rattle.std.specs.HashSet.{contains, hash_set_len};
 ghost use Rattle.bd_message.specs.KeyMaps.{HasMapCause, NeverWorn};
 ghost use Rattle.bd_node.specs.Frames.{OfSound, OnlyReads};
 ghost use Rattle.bd_node.specs.declared.node.Node.{Node};
 ghost use Rattle.bd_node.specs.Shape.{IsShape};
-ghost use Rattle.bd_node.specs.Tables.{IsKept};
+ghost use Rattle.bd_node.specs.Tables.{IsKept, kept_count};
 ghost use Rattle.bd_path.specs.Fetching.{IsFetched};
-ghost use Rattle.bd_cover.specs.Walking.{IsWalked, IsThinWay, IsThin, IsLook, IsEdgeLook, IsFirst, HasNone, IsToDo, IsToDoAt, IsFoundFrom, IsFoundIn, IsBelow, walk_size};
+ghost use Rattle.bd_cover.specs.Walking.{IsWalked, IsThinWay, IsThin, IsLook, IsEdgeLook, IsFirst, HasNone, AreCleanUpTo, AddsClean, AreKept, IsToDo, IsToDoAt, IsFoundFrom, IsFoundIn, IsBelow, walk_size};
 
 use crate::Cover;
 use crate::covering::{first_covered, first_cut};
@@ -15,6 +16,7 @@ use bd_message::MapFault;
 use bd_node::{Edge, Items, Node, NodeStore};
 use bd_path::{Fetched, Way, fetch};
 use std::alloc::{AllocError, Global};
+use std::collections::HashSet;
 
 /// A change to make, and where.
 #[derive(Debug, Drop)]
@@ -50,7 +52,8 @@ pub enum Reclaim {
 /// The first change that is still to be made, and none exactly where there is none. The walk looks
 /// at the root, and at each inner node that an edge of such a node asks and that nothing else
 /// names: at each node first, and then below its edges, in their order. Pushes are passed over
-/// unless `pushes` asks for them. Nothing is changed. At most those nodes are visited, each once.
+/// unless `pushes` asks for them. Nothing is changed. At most those nodes are visited, each once, also
+/// where the counts are wrong and the walk comes to a node again.
 pub fn reclaim_next<S: NodeStore>(
     alloc: Global,
     store: &mut S,
@@ -67,38 +70,61 @@ pub fn reclaim_next<S: NodeStore>(
         (IsToDoAt (S.nodes store.old) (S.table store.old)))) }
     ensures left { OnlyReads S.NodeStore store.old store.new }
     ensures cause { HasMapCause (S.fault_count store.old) (S.fault_count store.new)
-        (S.bad store.new) NeverWorn result }
+        (S.last_failed store.new) (S.bad store.new) NeverWorn result }
     ensures few_visits { S.is_known store.old → S.visit_count store.new
         ≤ S.visit_count store.old + walk_size (S.nodes store.old) (S.table store.old)
         ((S.table store.old).level (S.table store.old).root + 1) (S.table store.old).root }
+    ensures once { S.visit_count store.new
+        ≤ S.visit_count store.old + kept_count (S.table store.old) }
 {
     let root = store.root();
-    first_from(alloc, store, root, pushes)
+    let mut entered = HashSet::new(alloc);
+    let found = first_from(alloc, store, &mut entered, root, pushes);
+    let _ = entered.len();
+    found
 }
 
-// The first change to make at a node or below it. A push has the nodes above its own, up to this
-// one.
+// The first change to make at a node or below it, unless the node was entered before. A push has the
+// nodes above its own, up to this one. Below those that were entered and aren't higher nothing is to
+// be changed, nor below those that are entered here, where nothing is found.
 fn first_from<S: NodeStore>(
     alloc: Global,
     store: &mut S,
+    entered: &mut HashSet<u64>,
     id: u64,
     pushes: bool,
 ) -> Result<Option<Reclaim>, MapFault>
     requires { IsKept (S.table store.old) id }
     ensures first { OfSound S.NodeStore store.old
-        (IfOk result (λ found. MatchOption found
+        (AreCleanUpTo pushes (S.nodes store.old) (S.table store.old) (contains nat_eq entered.old)
+        ((S.table store.old).level id)
+        → IfOk result (λ found. MatchOption found
         (HasNone pushes (S.nodes store.old) (S.table store.old) id)
         (λ step. IsFirst pushes (S.nodes store.old) (S.table store.old) step id))) }
+    ensures clean { OfSound S.NodeStore store.old
+        (AreCleanUpTo pushes (S.nodes store.old) (S.table store.old) (contains nat_eq entered.old)
+        ((S.table store.old).level id)
+        → IfOk result (λ found. MatchOption found
+        (AddsClean pushes (S.nodes store.old) (S.table store.old) (contains nat_eq entered.old)
+        (contains nat_eq entered.new)) (λ step. ⊤))) }
     ensures found { IfOk result (λ found. IfSome found (IsFoundFrom (S.table store.old) id)) }
     ensures there { S.is_known store.old
         → IfOk result (λ found. IfSome found (IsFoundIn (S.nodes store.old))) }
     ensures left { OnlyReads S.NodeStore store.old store.new }
     ensures cause { HasMapCause (S.fault_count store.old) (S.fault_count store.new)
-        (S.bad store.new) NeverWorn result }
+        (S.last_failed store.new) (S.bad store.new) NeverWorn result }
     ensures few_visits { S.is_known store.old → (depth : ℕ) → (S.table store.old).level id < depth
         → S.visit_count store.new ≤ S.visit_count store.old
         + walk_size (S.nodes store.old) (S.table store.old) depth id }
+    ensures kept { AreKept (S.table store.old) (contains nat_eq entered.old)
+        → AreKept (S.table store.old) (contains nat_eq entered.new) }
+    ensures once { S.visit_count store.new + hash_set_len entered.old
+        ≤ S.visit_count store.old + hash_set_len entered.new }
 {
+    let added = entered.insert(id)?;
+    if !added {
+        return Ok(None);
+    }
     let here = fetch(store, id)?;
     let here = match look_at(alloc, store, here, pushes) {
         Look::Change(step) => return Ok(Some(step)),
@@ -109,7 +135,7 @@ fn first_from<S: NodeStore>(
         let Some(child) = walked(store, edge) else {
             continue;
         };
-        if let Some(step) = first_from(alloc, store, child, pushes)? {
+        if let Some(step) = first_from(alloc, store, entered, child, pushes)? {
             return Ok(Some(found_below(here, step)?));
         }
     }

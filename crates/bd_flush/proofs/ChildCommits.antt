@@ -1,5 +1,5 @@
 -- The commit of a child's split.
-use Rattle.std.proofs.Common.{◌≡◌, ℕ, ◌+◌, ◌^◌, ◌<◌, ◌≤◌, List, length, refl, sym, ap, subst, ◌∙◌, arith, Err}
+use Rattle.std.proofs.Common.{◌≡◌, ℕ, Bool, ◌+◌, ◌^◌, ◌<◌, ◌≤◌, List, length, refl, sym, ap, subst, ◌∙◌, arith, Err}
 use Rattle.std.proofs.lemmas.Option.{same_Some}
 use Rattle.bd_message.specs.declared.fault.MapFault.{MapFault}
 use Rattle.bd_message.specs.KeyMaps.{HasMapCause}
@@ -100,7 +100,7 @@ split_visits t parent place child step before now h is =
     let same : length step.made ≡ length h.split.made = ap (λ (q : Step). length q.made) h.split.is in
     omega arith
 
-pub split_cause : {T U : Type 0} (before now : ℕ) (bad : ℕ → Type 0) (t : Table) (above : List Fetched) (parent : Fetched) (place : ℕ) (child : Fetched) (step : Step) (e : MapFault) → IsToSplitChild t parent place child step → HasMapCause {T = T} before now bad (IsWornBy t step) (Err e)
-    → HasMapCause {T = U} before now bad (IsWornFor (IsSplitStep t above parent place child) (IsHighSplit above parent place child) t) (Err e)
-split_cause {T} {U} before now bad t above parent place child step e h cause =
-    worn_of {T = U} before now bad (IsSplitStep t above parent place child) (IsHighSplit above parent place child) t step (Err e) (short h.split) (cause_passed before now bad (IsWornBy t step) e cause)
+pub split_cause : {T U : Type 0} (before now : ℕ) (last : Bool) (bad : ℕ → Type 0) (t : Table) (above : List Fetched) (parent : Fetched) (place : ℕ) (child : Fetched) (step : Step) (e : MapFault) → IsToSplitChild t parent place child step → HasMapCause {T = T} before now last bad (IsWornBy t step) (Err e)
+    → HasMapCause {T = U} before now last bad (IsWornFor (IsSplitStep t above parent place child) (IsHighSplit above parent place child) t) (Err e)
+split_cause {T} {U} before now last bad t above parent place child step e h cause =
+    worn_of {T = U} before now last bad (IsSplitStep t above parent place child) (IsHighSplit above parent place child) t step (Err e) (short h.split) (cause_passed before now last bad (IsWornBy t step) e cause)

@@ -1,5 +1,5 @@
 -- Messages that go down in place.
-use Rattle.std.proofs.Common.{◌≡◌, ℕ, ◌+◌, ◌^◌, ◌<◌, ◌≤◌, List, [], ◌∷◌, length, take, refl, sym, ap, subst, ◌∙◌, Option, Some, None, arith, inl, inr, ◌⊎◌, Result, Ok, Err, OnOk}
+use Rattle.std.proofs.Common.{◌≡◌, ℕ, Bool, ◌+◌, ◌^◌, ◌<◌, ◌≤◌, List, [], ◌∷◌, length, take, refl, sym, ap, subst, ◌∙◌, Option, Some, None, arith, inl, inr, ◌⊎◌, Result, Ok, Err, OnOk}
 use Rattle.std.specs.List.{AllByRecursion, sum_by}
 use Rattle.std.proofs.lemmas.Bool.{cases_eq}
 use Rattle.std.proofs.lemmas.Option.{same_Some}
@@ -221,5 +221,5 @@ on_down_table Q t parent place child push u (Ok x) h p =
 on_down_table Q t parent place child push u (Err e) h p = tt
 
 -- no counter is worn
-pub never_worn : {T : Type 0} (before now : ℕ) (bad : ℕ → Type 0) (IsOne : Step → Type 0) (high : Type 0) (t : Table) (r : Result T MapFault) → HasMapCause before now bad NeverWorn r → HasMapCause before now bad (IsWornFor IsOne high t) r
-never_worn before now bad IsOne high t r cause = cause_weaker before now bad NeverWorn (IsWornFor IsOne high t) (λ counter worn. absurd worn) r cause
+pub never_worn : {T : Type 0} (before now : ℕ) (last : Bool) (bad : ℕ → Type 0) (IsOne : Step → Type 0) (high : Type 0) (t : Table) (r : Result T MapFault) → HasMapCause before now last bad NeverWorn r → HasMapCause before now last bad (IsWornFor IsOne high t) r
+never_worn before now last bad IsOne high t r cause = cause_weaker before now last bad NeverWorn (IsWornFor IsOne high t) (λ counter worn. absurd worn) r cause

@@ -1,5 +1,5 @@
 -- The commit of a push, with a node between or without.
-use Rattle.std.proofs.Common.{◌≡◌, ℕ, ◌+◌, ◌^◌, ◌<◌, ◌≤◌, List, [], ◌∷◌, length, refl, sym, ap, subst, ◌∙◌, arith, inl, inr, ◌⊎◌, Result, Ok, Err, OnOk, OnErr, Option, None, Some, IfOk, MatchOption}
+use Rattle.std.proofs.Common.{◌≡◌, ℕ, Bool, ◌+◌, ◌^◌, ◌<◌, ◌≤◌, List, [], ◌∷◌, length, refl, sym, ap, subst, ◌∙◌, arith, inl, inr, ◌⊎◌, Result, Ok, Err, OnOk, OnErr, Option, None, Some, IfOk, MatchOption}
 use Rattle.std.specs.List.{AllByRecursion}
 use Rattle.std.proofs.lemmas.Option.{same_Some}
 use Rattle.bd_message.specs.declared.fault.Counter.TheVariants.{NextId, Level}
@@ -138,23 +138,23 @@ on_planned_visits t way parent place child step before now (Ok x) h is same = le
 on_planned_visits t way parent place child step before now (Err e) h is same = omega arith
 
 -- a node can't rise
-pub no_level_cause : {T : Type 0} (count : ℕ) (bad : ℕ → Type 0) (IsOne : Step → Type 0) (t : Table) (way : List Fetched) (parent : Fetched) (place : ℕ) (child : Fetched) (work : Work) (plan : Plan) (root next : ℕ) → work ≡ Planned plan → plan ≡ NoLevel → IsWork root next way parent place child work
-    → HasMapCause {T = T} count count bad (IsWornFor IsOne (IsHighPush parent.node.value place child.node.value way) t) (Err (Worn Level))
-no_level_cause count bad IsOne t way parent place child work plan root next planned is h =
-    too_high count bad IsOne (IsHighPush parent.node.value place child.node.value way) t (subst (λ (p : Plan). IsPlan root next way parent place child p) is (the_plan root next way parent place child work plan planned h))
+pub no_level_cause : {T : Type 0} (count : ℕ) (last : Bool) (bad : ℕ → Type 0) (IsOne : Step → Type 0) (t : Table) (way : List Fetched) (parent : Fetched) (place : ℕ) (child : Fetched) (work : Work) (plan : Plan) (root next : ℕ) → work ≡ Planned plan → plan ≡ NoLevel → IsWork root next way parent place child work
+    → HasMapCause {T = T} count count last bad (IsWornFor IsOne (IsHighPush parent.node.value place child.node.value way) t) (Err (Worn Level))
+no_level_cause count last bad IsOne t way parent place child work plan root next planned is h =
+    too_high count last bad IsOne (IsHighPush parent.node.value place child.node.value way) t (subst (λ (p : Plan). IsPlan root next way parent place child p) is (the_plan root next way parent place child work plan planned h))
 
 -- the step of the store
 pub some_push : (t : Table) (way : List Fetched) (parent : Fetched) (place : ℕ) (child : Fetched) (step : Step) → IsPlanned t way parent place child step → IsSomePush t.root t.next way parent place child step
 some_push t way parent place child step h = elim h.push [ inl own ↦ inl own | inr b ↦ inr b.0 ]
 
 -- the step for which there are no ids
-pub no_id_cause : {T : Type 0} (count : ℕ) (bad : ℕ → Type 0) (high : Type 0) (t : Table) (way : List Fetched) (parent : Fetched) (place : ℕ) (child : Fetched) (work : Work) (plan : Plan) (root next : ℕ) → root ≡ t.root → next ≡ t.next → work ≡ Planned plan → plan ≡ NoId → IsWork root next way parent place child work
-    → HasMapCause {T = T} count count bad (IsWornFor (IsSomePush t.root t.next way parent place child) high t) (Err (Worn NextId))
-no_id_cause count bad high t way parent place child work plan root next same_root same_next planned is h =
+pub no_id_cause : {T : Type 0} (count : ℕ) (last : Bool) (bad : ℕ → Type 0) (high : Type 0) (t : Table) (way : List Fetched) (parent : Fetched) (place : ℕ) (child : Fetched) (work : Work) (plan : Plan) (root next : ℕ) → root ≡ t.root → next ≡ t.next → work ≡ Planned plan → plan ≡ NoId → IsWork root next way parent place child work
+    → HasMapCause {T = T} count count last bad (IsWornFor (IsSomePush t.root t.next way parent place child) high t) (Err (Worn NextId))
+no_id_cause count last bad high t way parent place child work plan root next same_root same_next planned is h =
     let none : IsPlan t.root t.next way parent place child NoId = subst (λ (i : ℕ). IsPlan t.root i way parent place child NoId) same_next (subst (λ (r : ℕ). IsPlan r next way parent place child NoId) same_root (subst (λ (p : Plan). IsPlan root next way parent place child p) is (the_plan root next way parent place child work plan planned h))) in
     let made : length none.0.made ≡ 2 = ap (λ (q : Step). length q.made) none.1.over.is in
     let full : 2 ^ 64 ≤ t.next + 1 = none.2 in
-    no_ids count bad (IsSomePush t.root t.next way parent place child) high t none.0 (inr none.1) (omega arith)
+    no_ids count last bad (IsSomePush t.root t.next way parent place child) high t none.0 (inr none.1) (omega arith)
 
 -- ---- the plan
 

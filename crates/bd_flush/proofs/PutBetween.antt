@@ -1,5 +1,5 @@
 -- A child that is put between its parent and its halves.
-use Rattle.std.proofs.Common.{◌≡◌, ℕ, ◌+◌, ◌^◌, ◌<◌, ◌≤◌, List, [], ◌∷◌, ◌++◌, length, map, refl, sym, ap, subst, ◌∙◌, Option, None, Some, arith, Result, Ok, Err, OnOk, MatchOption}
+use Rattle.std.proofs.Common.{◌≡◌, ℕ, Bool, ◌+◌, ◌^◌, ◌<◌, ◌≤◌, List, [], ◌∷◌, ◌++◌, length, map, refl, sym, ap, subst, ◌∙◌, Option, None, Some, arith, Result, Ok, Err, OnOk, MatchOption}
 use Rattle.std.specs.List.{AllByRecursion}
 use Rattle.bd_limits.specs.Limits.{level_limit}
 use Rattle.bd_message.specs.declared.fault.Counter.TheVariants.{NextId}
@@ -157,13 +157,13 @@ plan_found IsOne root next high plan t step is root_is next_is h =
 pub plan_high : (IsOne : ℕ → ℕ → Step → Type 0) (root next : ℕ) (high : Type 0) (plan : Plan) → plan ≡ NoLevel → IsPlanOf (IsOne root next) next high plan → high
 plan_high IsOne root next high plan is h = subst (λ (p : Plan). IsPlanOf (IsOne root next) next high p) is h
 
-pub put_full : {T : Type 0} (count : ℕ) (bad : ℕ → Type 0) (high : Type 0) (t : Table) (way : List Fetched) (child : Fetched) (halves : Halves) (root next : ℕ) (plan : Plan) → plan ≡ NoId → root ≡ t.root → next ≡ t.next → IsPlanOf (IsBetweenStep root next way child halves) next high plan
-    → HasMapCause {T = T} count count bad (IsWornFor (IsBetweenStep t.root t.next way child halves) high t) (Err (Worn NextId))
-put_full count bad high t way child halves root next plan is root_is next_is h =
+pub put_full : {T : Type 0} (count : ℕ) (last : Bool) (bad : ℕ → Type 0) (high : Type 0) (t : Table) (way : List Fetched) (child : Fetched) (halves : Halves) (root next : ℕ) (plan : Plan) → plan ≡ NoId → root ≡ t.root → next ≡ t.next → IsPlanOf (IsBetweenStep root next way child halves) next high plan
+    → HasMapCause {T = T} count count last bad (IsWornFor (IsBetweenStep t.root t.next way child halves) high t) (Err (Worn NextId))
+put_full count last bad high t way child halves root next plan is root_is next_is h =
     let none : IsPlanOf (IsBetweenStep t.root t.next way child halves) t.next high NoId = subst (λ (i : ℕ). IsPlanOf (IsBetweenStep t.root i way child halves) i high NoId) next_is (subst (λ (r : ℕ). IsPlanOf (IsBetweenStep r next way child halves) next high NoId) root_is (subst (λ (p : Plan). IsPlanOf (IsBetweenStep root next way child halves) next high p) is h)) in
     let made : length none.0.made ≡ 2 = ap (λ (q : Step). length q.made) none.1.is in
     let full : 2 ^ 64 ≤ t.next + 1 = none.2 in
-    no_ids count bad (IsBetweenStep t.root t.next way child halves) high t none.0 none.1 (omega arith)
+    no_ids count last bad (IsBetweenStep t.root t.next way child halves) high t none.0 none.1 (omega arith)
 
 -- ---- a child's split
 

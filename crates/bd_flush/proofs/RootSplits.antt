@@ -1,6 +1,6 @@
 -- A node that is put above its halves: the root that is split, or a child between its parent and its
 -- halves, where the nodes above rise.
-use Rattle.std.proofs.Common.{◌≡◌, ℕ, ◌+◌, ◌-◌, ◌^◌, ◌<◌, ◌≤◌, List, [], ◌∷◌, length, map, refl, sym, ap, subst, ◌∙◌, Option, None, Some, MatchOption, arith, inl, inr, IsSome, Result, Ok, Err, OnOk, ◌⊎◌}
+use Rattle.std.proofs.Common.{◌≡◌, ℕ, Bool, ◌+◌, ◌-◌, ◌^◌, ◌<◌, ◌≤◌, List, [], ◌∷◌, length, map, refl, sym, ap, subst, ◌∙◌, Option, None, Some, MatchOption, arith, inl, inr, IsSome, Result, Ok, Err, OnOk, ◌⊎◌}
 use Rattle.std.specs.Prelude.{slice_get}
 use Rattle.std.specs.List.{AllByRecursion}
 use Rattle.std.specs.Ordering.{is_lt}
@@ -385,9 +385,9 @@ root_step t n halves step root next level others level_is root_is next_is none a
     }
 
 -- there are no ids for it
-pub root_full : {T : Type 0} (count : ℕ) (bad : ℕ → Type 0) (t : Table) (n : Node) (halves : Halves) (next : ℕ) → next ≡ t.next → AreHalves n halves → 2 ^ 64 ≤ next + 1 → HasMapCause {T = T} count count bad (IsWornFor (IsRootSplit t n) (t.level t.root ≡ level_limit) t) (Err (Worn NextId))
-root_full count bad t n halves next next_is are full =
-    no_ids count bad (IsRootSplit t n) (t.level t.root ≡ level_limit) t (over_step t.root t.next t.root (level_of n + 1) halves [])
+pub root_full : {T : Type 0} (count : ℕ) (last : Bool) (bad : ℕ → Type 0) (t : Table) (n : Node) (halves : Halves) (next : ℕ) → next ≡ t.next → AreHalves n halves → 2 ^ 64 ≤ next + 1 → HasMapCause {T = T} count count last bad (IsWornFor (IsRootSplit t n) (t.level t.root ≡ level_limit) t) (Err (Worn NextId))
+root_full count last bad t n halves next next_is are full =
+    no_ids count last bad (IsRootSplit t n) (t.level t.root ≡ level_limit) t (over_step t.root t.next t.root (level_of n + 1) halves [])
     (record { halves = halves; are = are; is = refl }) (omega arith)
 
 pub is_to_split : (t : Table) (n : Node) (step : Step) → IsTable t → IsNodeOf t (t.level t.root) n → level_of n < level_limit → t.next + 1 < 2 ^ 64 → IsRootSplit t n step → IsToSplit t n step

@@ -55,10 +55,9 @@ pub fn put_between<S: NodeStore>(
     ensures err { OnErr result (OnlyReads S.NodeStore store.old store.new) }
     ensures few_visits { S.visit_count store.new ≤ S.visit_count store.old + 2 }
     ensures cause { HasMapCause (S.fault_count store.old) (S.fault_count store.new)
-        (S.bad store.new) (IsWornFor (IsBetweenStep (S.table store.old).root
-        (S.table store.old).next (parent.now ∷ reverse above.now) child.now
-        halves)
-        (CannotRise (level_of child.now.node.value + 1) (parent.now ∷ reverse above.now))
+        (S.last_failed store.new) (S.bad store.new) (IsWornFor (IsBetweenStep
+        (S.table store.old).root (S.table store.old).next (parent.now ∷ reverse above.now) child.now
+        halves) (CannotRise (level_of child.now.node.value + 1) (parent.now ∷ reverse above.now))
         (S.table store.old)) result }
 {
     let root = store.root();

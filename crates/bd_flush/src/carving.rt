@@ -39,8 +39,8 @@ pub fn carve<S: NodeStore>(
     ensures err { OnErr result (OnlyReads S.NodeStore store.old store.new) }
     ensures few_visits { S.visit_count store.new ≤ S.visit_count store.old }
     ensures cause { HasMapCause (S.fault_count store.old) (S.fault_count store.new)
-        (S.bad store.new) (IsWornFor (IsCarveStep (S.table store.old) parent.now place) ⊥
-        (S.table store.old)) result }
+        (S.last_failed store.new) (S.bad store.new) (IsWornFor (IsCarveStep (S.table store.old)
+        parent.now place) ⊥ (S.table store.old)) result }
 {
     let root = store.root();
     let step = carve_step(alloc, store, root, parent, place, index)?;

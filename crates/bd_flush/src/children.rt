@@ -63,9 +63,9 @@ pub fn split_child<S: NodeStore>(
     ensures err { OnErr result (OnlyReads S.NodeStore store.old store.new) }
     ensures few_visits { S.visit_count store.new ≤ S.visit_count store.old + 2 }
     ensures cause { HasMapCause (S.fault_count store.old) (S.fault_count store.new)
-        (S.bad store.new) (IsWornFor (IsSplitStep (S.table store.old) (reverse above.now)
-        parent.now place child.now) (IsHighSplit (reverse above.now) parent.now place child.now)
-        (S.table store.old)) result }
+        (S.last_failed store.new) (S.bad store.new) (IsWornFor (IsSplitStep (S.table store.old)
+        (reverse above.now) parent.now place child.now) (IsHighSplit (reverse above.now) parent.now
+        place child.now) (S.table store.old)) result }
 {
     let root = store.root();
     let next = store.next_id();

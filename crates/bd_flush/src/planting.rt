@@ -47,7 +47,7 @@ pub fn push_new<S: NodeStore>(
         (S.visit_count store.new ≡ visited (S.visit_count store.old) 1) }
     ensures err_visits { OnErr result (S.visit_count store.new ≡ S.visit_count store.old) }
     ensures cause { HasMapCause (S.fault_count store.old) (S.fault_count store.new)
-        (S.bad store.new) (IsWornFor (IsNewStep (S.table store.old).root
+        (S.last_failed store.new) (S.bad store.new) (IsWornFor (IsNewStep (S.table store.old).root
         (S.table store.old).next parent.now place) ⊥ (S.table store.old)) result }
 {
     let root = store.root();

@@ -71,7 +71,7 @@ pub fn push<S: NodeStore>(
     ensures err { OnErr result (OnlyReads S.NodeStore store.old store.new) }
     ensures few_visits { S.visit_count store.new ≤ S.visit_count store.old + 2 }
     ensures cause { HasMapCause (S.fault_count store.old) (S.fault_count store.new)
-        (S.bad store.new) (IsWornFor (IsSomePush (S.table store.old).root
+        (S.last_failed store.new) (S.bad store.new) (IsWornFor (IsSomePush (S.table store.old).root
         (S.table store.old).next (reverse above.now) parent place child)
         (IsHighPush parent.node.value place child.node.value (reverse above.now))
         (S.table store.old)) result }

@@ -45,8 +45,8 @@ pub fn split_root<S: NodeStore>(alloc: Global, store: &mut S, root: &Node) -> Re
         (S.visit_count store.new ≡ visited (S.visit_count store.old) 2) }
     ensures err_visits { OnErr result (S.visit_count store.new ≡ S.visit_count store.old) }
     ensures cause { HasMapCause (S.fault_count store.old) (S.fault_count store.new)
-        (S.bad store.new) (IsWornFor (IsRootSplit (S.table store.old) root.now)
-        ((S.table store.old).level (S.table store.old).root ≡ level_limit)
+        (S.last_failed store.new) (S.bad store.new) (IsWornFor (IsRootSplit (S.table store.old)
+        root.now) ((S.table store.old).level (S.table store.old).root ≡ level_limit)
         (S.table store.old)) result }
 {
     if root.level() >= MAX_LEVEL {

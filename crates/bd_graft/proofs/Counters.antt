@@ -112,18 +112,18 @@ worn_level known nodes t n packed s d keep ready k sound there high last =
     worn_of known nodes t n packed s d keep Level ready k sound there (level_raised (omega arith) refl last)
 
 -- what the store says of the step
-pub worn_under : {T : Type 0} (before now : ℕ) (bad : ℕ → Type 0) (known : Type 0) (nodes : Nodes) (t : Table) (n : Node) (packed : Packed) (s d : List ℕ) (keep : Bool) (r : Result T MapFault) → IsReady known nodes t s packed → known → IsSound nodes t → nodes t.root ≡ Some n → packed.level < t.level t.root
-    → HasMapCause before now bad (IsWornBy t (extend_step t n packed.made.items (graft_messages s d keep packed.target))) r → IfErr r (OnWorn (IsWornByGraft nodes t s d keep))
-worn_under before now bad known nodes t n packed s d keep (Ok x) ready k sound there low h = tt
-worn_under before now bad known nodes t n packed s d keep (Err DeviceFault) ready k sound there low h = tt
-worn_under before now bad known nodes t n packed s d keep (Err (Damaged block)) ready k sound there low h = tt
-worn_under before now bad known nodes t n packed s d keep (Err (Worn counter)) ready k sound there low h = worn_of known nodes t n packed s d keep counter ready k sound there (root_kept (omega arith) h.failed)
-worn_under before now bad known nodes t n packed s d keep (Err NoMemory) ready k sound there low h = tt
+pub worn_under : {T : Type 0} (before now : ℕ) (last : Bool) (bad : ℕ → Type 0) (known : Type 0) (nodes : Nodes) (t : Table) (n : Node) (packed : Packed) (s d : List ℕ) (keep : Bool) (r : Result T MapFault) → IsReady known nodes t s packed → known → IsSound nodes t → nodes t.root ≡ Some n → packed.level < t.level t.root
+    → HasMapCause before now last bad (IsWornBy t (extend_step t n packed.made.items (graft_messages s d keep packed.target))) r → IfErr r (OnWorn (IsWornByGraft nodes t s d keep))
+worn_under before now last bad known nodes t n packed s d keep (Ok x) ready k sound there low h = tt
+worn_under before now last bad known nodes t n packed s d keep (Err DeviceFault) ready k sound there low h = tt
+worn_under before now last bad known nodes t n packed s d keep (Err (Damaged block)) ready k sound there low h = tt
+worn_under before now last bad known nodes t n packed s d keep (Err (Worn counter)) ready k sound there low h = worn_of known nodes t n packed s d keep counter ready k sound there (root_kept (omega arith) h.failed)
+worn_under before now last bad known nodes t n packed s d keep (Err NoMemory) ready k sound there low h = tt
 
-pub worn_over : {T : Type 0} (before now : ℕ) (bad : ℕ → Type 0) (known : Type 0) (nodes : Nodes) (t : Table) (n : Node) (packed : Packed) (s d : List ℕ) (keep : Bool) (r : Result T MapFault) → IsReady known nodes t s packed → known → IsSound nodes t → nodes t.root ≡ Some n → t.level t.root ≤ packed.level
-    → HasMapCause before now bad (IsWornBy t (step_over t packed.made.items (graft_messages s d keep packed.target))) r → IfErr r (OnWorn (IsWornByGraft nodes t s d keep))
-worn_over before now bad known nodes t n packed s d keep (Ok x) ready k sound there high h = tt
-worn_over before now bad known nodes t n packed s d keep (Err DeviceFault) ready k sound there high h = tt
-worn_over before now bad known nodes t n packed s d keep (Err (Damaged block)) ready k sound there high h = tt
-worn_over before now bad known nodes t n packed s d keep (Err (Worn counter)) ready k sound there high h = worn_of known nodes t n packed s d keep counter ready k sound there (root_raised (omega arith) h.failed)
-worn_over before now bad known nodes t n packed s d keep (Err NoMemory) ready k sound there high h = tt
+pub worn_over : {T : Type 0} (before now : ℕ) (last : Bool) (bad : ℕ → Type 0) (known : Type 0) (nodes : Nodes) (t : Table) (n : Node) (packed : Packed) (s d : List ℕ) (keep : Bool) (r : Result T MapFault) → IsReady known nodes t s packed → known → IsSound nodes t → nodes t.root ≡ Some n → t.level t.root ≤ packed.level
+    → HasMapCause before now last bad (IsWornBy t (step_over t packed.made.items (graft_messages s d keep packed.target))) r → IfErr r (OnWorn (IsWornByGraft nodes t s d keep))
+worn_over before now last bad known nodes t n packed s d keep (Ok x) ready k sound there high h = tt
+worn_over before now last bad known nodes t n packed s d keep (Err DeviceFault) ready k sound there high h = tt
+worn_over before now last bad known nodes t n packed s d keep (Err (Damaged block)) ready k sound there high h = tt
+worn_over before now last bad known nodes t n packed s d keep (Err (Worn counter)) ready k sound there high h = worn_of known nodes t n packed s d keep counter ready k sound there (root_raised (omega arith) h.failed)
+worn_over before now last bad known nodes t n packed s d keep (Err NoMemory) ready k sound there high h = tt

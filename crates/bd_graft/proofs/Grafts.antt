@@ -430,8 +430,8 @@ under_ready known nodes t n packed s d keep made list ready table root low hs hd
       is = ap (λ (ms : List Node). extend_step t n ms list) made_is ∙ ap (λ (l : List Message). extend_step t n packed.made.items l) list_is;
     }
 
-pub worn_step : {T : Type 0} (before now : ℕ) (bad : ℕ → Type 0) (t : Table) (step other : Step) (r : Result T MapFault) → step ≡ other → HasMapCause before now bad (IsWornBy t step) r → HasMapCause before now bad (IsWornBy t other) r
-worn_step before now bad t step other r is h = subst (λ (q : Step). HasMapCause before now bad (IsWornBy t q) r) is h
+pub worn_step : {T : Type 0} (before now : ℕ) (last : Bool) (bad : ℕ → Type 0) (t : Table) (step other : Step) (r : Result T MapFault) → step ≡ other → HasMapCause before now last bad (IsWornBy t step) r → HasMapCause before now last bad (IsWornBy t other) r
+worn_step before now last bad t step other r is h = subst (λ (q : Step). HasMapCause before now last bad (IsWornBy t q) r) is h
 
 -- the step of a graft into a new root
 pub record IsOverStep (known : Type 0) (nodes : Nodes) (t : Table) (packed : Packed) (s d : List ℕ) (keep : Bool) (step : Step) : Type 0 where

@@ -87,8 +87,8 @@ not_called {S} {T} g s d keep old new e same reads keeps = subst (λ (x : S). Is
 })
 
 -- why a call after reads failed
-pub err_cause : {T U : Type 0} (before mid now : ℕ) (bad : ℕ → Type 0) (t u : Table) (e : MapFault) → mid ≡ before → u ≡ t → HasMapCause {T = T} mid now bad (IsWornForGraft u) (Err e) → HasMapCause {T = U} before now bad (IsWornForGraft t) (Err e)
-err_cause {T} {U} before mid now bad t u e same table h =
-    let there : HasMapCause {T = T} before now bad (IsWornForGraft t) (Err e) =
-    cause_after before mid now bad (IsWornForGraft t) (Err e) same (subst (λ (x : Table). HasMapCause {T = T} mid now bad (IsWornForGraft x) (Err e)) table h) in
+pub err_cause : {T U : Type 0} (before mid now : ℕ) (last : Bool) (bad : ℕ → Type 0) (t u : Table) (e : MapFault) → mid ≡ before → u ≡ t → HasMapCause {T = T} mid now last bad (IsWornForGraft u) (Err e) → HasMapCause {T = U} before now last bad (IsWornForGraft t) (Err e)
+err_cause {T} {U} before mid now last bad t u e same table h =
+    let there : HasMapCause {T = T} before now last bad (IsWornForGraft t) (Err e) =
+    cause_after before mid now last bad (IsWornForGraft t) (Err e) same (subst (λ (x : Table). HasMapCause {T = T} mid now last bad (IsWornForGraft x) (Err e)) table h) in
     record { later = there.later; kept = tt; stays = there.stays; failed = there.failed }

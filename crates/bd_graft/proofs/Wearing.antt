@@ -127,13 +127,13 @@ adding_worn t n made list inner Flushes worn = worn
 
 -- ---- what is returned
 
-pub extend_cause : {T : Type 0} (before now : ℕ) (bad : ℕ → Type 0) (t : Table) (n : Node) (made : List Node) (list : List Message) (r : Result T MapFault) → 1 ≤ level_of n → HasMapCause before now bad (IsWornByAdding t made list) r → HasMapCause before now bad (IsWornBy t (extend_step t n made list)) r
-extend_cause before now bad t n made list r inner h =
-    cause_weaker before now bad (IsWornByAdding t made list) (IsWornBy t (extend_step t n made list)) (adding_worn t n made list inner) r h
+pub extend_cause : {T : Type 0} (before now : ℕ) (last : Bool) (bad : ℕ → Type 0) (t : Table) (n : Node) (made : List Node) (list : List Message) (r : Result T MapFault) → 1 ≤ level_of n → HasMapCause before now last bad (IsWornByAdding t made list) r → HasMapCause before now last bad (IsWornBy t (extend_step t n made list)) r
+extend_cause before now last bad t n made list r inner h =
+    cause_weaker before now last bad (IsWornByAdding t made list) (IsWornBy t (extend_step t n made list)) (adding_worn t n made list inner) r h
 
-pub cause_of : {T : Type 0} (before now : ℕ) (bad : ℕ → Type 0) (t : Table) (step : Step) (r : Result T MapFault) → IsStep t step → length step.made ≤ t.level t.root + 2 → t.level t.root ≤ level_limit → length step.changes ≤ 1 → HasMapCause before now bad (IsWornBy t step) r → HasMapCause before now bad (IsWornForGraft t) r
-cause_of before now bad t step r ok few high one h =
-    cause_weaker before now bad (IsWornBy t step) (IsWornForGraft t) (graft_worn t step ok few high one) r h
+pub cause_of : {T : Type 0} (before now : ℕ) (last : Bool) (bad : ℕ → Type 0) (t : Table) (step : Step) (r : Result T MapFault) → IsStep t step → length step.made ≤ t.level t.root + 2 → t.level t.root ≤ level_limit → length step.changes ≤ 1 → HasMapCause before now last bad (IsWornBy t step) r → HasMapCause before now last bad (IsWornForGraft t) r
+cause_of before now last bad t step r ok few high one h =
+    cause_weaker before now last bad (IsWornBy t step) (IsWornForGraft t) (graft_worn t step ok few high one) r h
 
 pub under_ok : (known : Type 0) (nodes : Nodes) (t : Table) (n : Node) (packed : Packed) (s d : List ℕ) (keep : Bool) → IsReady known nodes t s packed → IsTable t → IsNodeOf t (t.level t.root) n → packed.level < t.level t.root → length s ≤ key_limit → length d ≤ key_limit → buffer_size n + 1600 ≤ buffer_limit → t.next + length packed.made.items < 2 ^ 64
     → IsStep t (extend_step t n packed.made.items (graft_messages s d keep packed.target))

@@ -80,7 +80,7 @@ pub fn graft<S: NodeStore>(
     ensures stays { Stays S.NodeStore store.old store.new }
     ensures err { OnErr result (OnlyReads S.NodeStore store.old store.new) }
     ensures cause { HasMapCause (S.fault_count store.old) (S.fault_count store.new)
-        (S.bad store.new) (IsWornForGraft (S.table store.old)) result }
+        (S.last_failed store.new) (S.bad store.new) (IsWornForGraft (S.table store.old)) result }
     ensures worn { OfSound S.NodeStore store.old
         (IfErr result (OnWorn (IsWornByGraft (S.nodes store.old) (S.table store.old)
         s.now d.now keep))) }
@@ -127,7 +127,7 @@ fn finish<S: NodeStore>(
         ((S.table store.old).level (S.table store.old).root)) }
     ensures call { IsGraftCall S.NodeStore s.now d.now keep store.old store.new result }
     ensures cause { HasMapCause (S.fault_count store.old) (S.fault_count store.new)
-        (S.bad store.new) (IsWornForGraft (S.table store.old)) result }
+        (S.last_failed store.new) (S.bad store.new) (IsWornForGraft (S.table store.old)) result }
     ensures worn { OfSound S.NodeStore store.old
         (IfErr result (OnWorn (IsWornByGraft (S.nodes store.old) (S.table store.old)
         s.now d.now keep))) }
@@ -175,7 +175,7 @@ fn put_again<S: NodeStore>(
         (record { child = child; source = [] }) ((S.table store.old).level child + 1)) }
     ensures call { IsGraftCall S.NodeStore s.now d.now keep store.old store.new result }
     ensures cause { HasMapCause (S.fault_count store.old) (S.fault_count store.new)
-        (S.bad store.new) (IsWornForGraft (S.table store.old)) result }
+        (S.last_failed store.new) (S.bad store.new) (IsWornForGraft (S.table store.old)) result }
     ensures worn { OfSound S.NodeStore store.old
         (IfErr result (OnWorn (IsWornByGraft (S.nodes store.old) (S.table store.old)
         s.now d.now keep))) }
@@ -209,8 +209,8 @@ fn put_under<S: NodeStore>(
         s.now packed }
     ensures call { IsGraftCall S.NodeStore s.now d.now keep store.old store.new result }
     ensures cause { HasMapCause (S.fault_count store.old) (S.fault_count store.new)
-        (S.bad store.new) (IsWornByAdding (S.table store.old) packed.made.items
-        (graft_messages s.now d.now keep packed.target)) result }
+        (S.last_failed store.new) (S.bad store.new) (IsWornByAdding (S.table store.old)
+        packed.made.items (graft_messages s.now d.now keep packed.target)) result }
 {
     is_table(&*store);
     let Packed { made, target, .. } = packed;
@@ -244,8 +244,9 @@ fn put_over<S: NodeStore>(
         s.now packed }
     ensures call { IsGraftCall S.NodeStore s.now d.now keep store.old store.new result }
     ensures cause { HasMapCause (S.fault_count store.old) (S.fault_count store.new)
-        (S.bad store.new) (IsWornBy (S.table store.old) (step_over (S.table store.old)
-        packed.made.items (graft_messages s.now d.now keep packed.target))) result }
+        (S.last_failed store.new) (S.bad store.new)
+        (IsWornBy (S.table store.old) (step_over (S.table store.old) packed.made.items
+        (graft_messages s.now d.now keep packed.target))) result }
 {
     let root = store.root();
     let next = store.next_id();

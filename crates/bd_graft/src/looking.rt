@@ -52,7 +52,7 @@ pub(crate) fn find_overlay<S: NodeStore>(
     ensures few { IfOk result (λ lookup. lookup.fetched ≤ 2) }
     ensures left { OnlyReads S.NodeStore store.old store.new }
     ensures cause { HasMapCause (S.fault_count store.old) (S.fault_count store.new)
-        (S.bad store.new) NeverWorn result }
+        (S.last_failed store.new) (S.bad store.new) NeverWorn result }
     ensures visits { (from number : ℕ) → S.visit_count store.old ≡ visited from number
         → IfOk result (λ lookup. S.visit_count store.new
         ≡ visited from (number + lookup.fetched)) }

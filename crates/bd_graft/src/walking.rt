@@ -60,7 +60,7 @@ pub fn walk<S: NodeStore>(alloc: Global, store: &mut S, prefix: &[u8]) -> Result
     ensures short { IfOk result (λ way. IsShort way.end) }
     ensures left { OnlyReads S.NodeStore store.old store.new }
     ensures cause { HasMapCause (S.fault_count store.old) (S.fault_count store.new)
-        (S.bad store.new) NeverWorn result }
+        (S.last_failed store.new) (S.bad store.new) NeverWorn result }
     ensures fetched { IfOk result (λ way. way.fetched
         ≡ fetched_on (S.table store.old) (messages_in way.layers.items) way.end) }
     ensures visits { IfOk result (λ way. S.visit_count store.new
@@ -146,7 +146,7 @@ fn passed_node<S: NodeStore>(
         → HasRoot (S.is_known store.old) (S.nodes store.old) (S.table store.old)) }
     ensures left { OnlyReads S.NodeStore store.old store.new }
     ensures cause { HasMapCause (S.fault_count store.old) (S.fault_count store.new)
-        (S.bad store.new) NeverWorn result }
+        (S.last_failed store.new) (S.bad store.new) NeverWorn result }
     ensures visits { S.visit_count store.new ≡ visited (S.visit_count store.old) 1 }
 {
     let node = store.fetch(id)?;

@@ -1,6 +1,6 @@
 //! How what is kept changes: all of a step or nothing.
 
-ghost use Rattle.std.specs.Prelude.{◌≡◌, ℕ, ◌+◌, ◌≤◌, ◌^◌, [], ◌==◌, if◌then◌else◌, OnOk, OnErr, IfOk};
+ghost use Rattle.std.specs.Prelude.{◌≡◌, ℕ, ◌+◌, ◌≤◌, ◌^◌, false, [], ◌==◌, if◌then◌else◌, OnOk, OnErr, IfOk};
 ghost use Rattle.bd_message.specs.KeyMaps.{HasMapCause, NeverWorn};
 ghost use Rattle.bd_node.specs.declared.node.Node.{Node};
 ghost use Rattle.bd_node.specs.Nodes.{appended};
@@ -31,7 +31,7 @@ impl Kept {
         ensures table { OnOk result (IsTableAfter (table_in self.old) step (table_in self.new)) }
         ensures whole { IsWhole self.new }
         ensures err { OnErr result (SameKept self.old self.new) }
-        ensures cause { HasMapCause 0 0 (λ _. ⊥) (IsWornBy (table_in self.old) step) result }
+        ensures cause { HasMapCause 0 0 false (λ _. ⊥) (IsWornBy (table_in self.old) step) result }
     {
         let plan = self.planned(alloc, step)?;
         self.make_room(plan.made.len(), plan.changes.len())?;
@@ -42,7 +42,7 @@ impl Kept {
     // The plan of a step for which each counter has room.
     fn planned(&self, alloc: Global, step: Step) -> Result<Plan, MapFault>
         ensures plan { IfOk result (λ plan. IsPlanOf self.now step plan) }
-        ensures cause { HasMapCause 0 0 (λ _. ⊥) (IsWornBy (table_in self.now) step) result }
+        ensures cause { HasMapCause 0 0 false (λ _. ⊥) (IsWornBy (table_in self.now) step) result }
     {
         if self.next.checked_add(step.made.len() as u64).is_none() {
             return Err(MapFault::Worn(Counter::NextId));
@@ -65,7 +65,7 @@ impl Kept {
         ensures table { OnOk result (table_in self.new ≡ grown (table_in self.old) list) }
         ensures whole { IsWhole self.new }
         ensures err { OnErr result (SameKept self.old self.new) }
-        ensures cause { HasMapCause 0 0 (λ _. ⊥) NeverWorn result }
+        ensures cause { HasMapCause 0 0 false (λ _. ⊥) NeverWorn result }
     {
         let added = list.size();
         append_at(alloc, &mut self.nodes, self.root, list)?;
@@ -88,8 +88,8 @@ impl Kept {
             (extend_step (table_in self.old) root made list) (table_in self.new)) }
         ensures whole { IsWhole self.new }
         ensures err { OnErr result (SameKept self.old self.new) }
-        ensures cause { HasMapCause 0 0 (λ _. ⊥) (IsWornByAdding (table_in self.old) made list)
-            result }
+        ensures cause { HasMapCause 0 0 false (λ _. ⊥)
+            (IsWornByAdding (table_in self.old) made list) result }
     {
         let addition = self.addition(alloc, made, list.as_slice())?;
         self.make_room(addition.made.len(), 0)?;
@@ -104,7 +104,7 @@ impl Kept {
     // room.
     fn addition(&self, alloc: Global, made: Nodes, list: &[Message]) -> Result<Addition, MapFault>
         ensures addition { IfOk result (IsAdditionOf self.now made list.now) }
-        ensures cause { HasMapCause 0 0 (λ _. ⊥)
+        ensures cause { HasMapCause 0 0 false (λ _. ⊥)
             (IsWornByAdding (table_in self.now) made list.now) result }
     {
         if self.next.checked_add(made.len() as u64).is_none() {
@@ -129,7 +129,7 @@ impl Kept {
         ensures table { OnOk result (HasPushed (table_in self.old) push (table_in self.new)) }
         ensures whole { IsWhole self.new }
         ensures err { OnErr result (SameKept self.old self.new) }
-        ensures cause { HasMapCause 0 0 (λ _. ⊥) NeverWorn result }
+        ensures cause { HasMapCause 0 0 false (λ _. ⊥) NeverWorn result }
     {
         let step = self.push_step(alloc, push)?;
         let changes = exchanges(alloc, step.changes)?;

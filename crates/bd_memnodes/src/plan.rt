@@ -1,6 +1,6 @@
 //! What a step needs before the first change.
 
-ghost use Rattle.std.specs.Prelude.{◌≡◌, ℕ, ◌+◌, ◌<◌, ◌≤◌, ◌^◌, OnOk, IfOk, map, nat_eq};
+ghost use Rattle.std.specs.Prelude.{◌≡◌, ℕ, ◌+◌, ◌<◌, ◌≤◌, ◌^◌, false, OnOk, IfOk, map, nat_eq};
 ghost use Rattle.std.specs.Option.{unwrap_or};
 ghost use Rattle.std.specs.HashMap.{get};
 ghost use Rattle.bd_counts.specs.Naming.{times_among, step_names, added_names};
@@ -110,7 +110,7 @@ pub fn check_counts(
 ) -> Result<(), MapFault>
     ensures fits { OnOk result ((c : ℕ) → 1 ≤ times_among names.now c
         → count_in counts.now c + times_among names.now c < 2 ^ 64) }
-    ensures cause { HasMapCause 0 0 (λ _. ⊥) (IsWornByNames (count_in counts.now) names.now)
+    ensures cause { HasMapCause 0 0 false (λ _. ⊥) (IsWornByNames (count_in counts.now) names.now)
         result }
 {
     let mut raised: HashMap<u64, u64> = HashMap::new(alloc);

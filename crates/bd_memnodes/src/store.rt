@@ -1,6 +1,6 @@
 //! The store in memory.
 
-ghost use Rattle.std.specs.Prelude.{◌≡◌, ℕ, length, OnOk, OnErr, IfOk, ⊤};
+ghost use Rattle.std.specs.Prelude.{◌≡◌, ℕ, false, length, OnOk, OnErr, IfOk, ⊤};
 ghost use Rattle.bd_node.specs.Tables.{IsSound};
 ghost use Rattle.bd_node.specs.New.{new_root, new_nodes, new_table};
 ghost use Rattle.bd_memnodes.specs.Seen.{nodes_of, table, SameNodes};
@@ -92,6 +92,8 @@ impl NodeStore for MemNodes {
     ghost visit_count = { λ s. s.visits };
 
     ghost fault_count = { λ _. 0 };
+
+    ghost last_failed = { λ _. false };
 
     ghost bad = { λ _ _. ⊥ };
 

@@ -1,6 +1,6 @@
 //! The store of nodes.
 
-ghost use Rattle.std.specs.Prelude.{◌≡◌, ℕ, ◌≤◌, List, [], ◌∷◌, length, Some, IfOk, OnOk, OnErr};
+ghost use Rattle.std.specs.Prelude.{◌≡◌, ℕ, ◌≤◌, Bool, List, [], ◌∷◌, length, Some, IfOk, OnOk, OnErr};
 ghost use Rattle.bd_message.specs.KeyMaps.{HasMapCause, NeverWorn};
 ghost use Rattle.bd_node.specs.declared.node.Node.{Node};
 ghost use Rattle.bd_node.specs.Nodes.{buffer_size};
@@ -32,6 +32,9 @@ pub trait NodeStore {
     /// How often what it stands on has failed, up to a u64's last value.
     ghost fault_count: { Self → ℕ };
 
+    /// Whether the last call that it made of what it stands on failed.
+    ghost last_failed: { Self → Bool };
+
     /// The blocks whose bytes aren't of the format.
     ghost bad: { Self → ℕ → Type 0 };
 
@@ -59,7 +62,7 @@ pub trait NodeStore {
         ensures left { OnlyReadsBy is_known nodes table reads loans self.old self.new }
         ensures visits { visit_count self.new ≡ visited (visit_count self.old) 1 }
         ensures cause { HasMapCause (fault_count self.old) (fault_count self.new)
-            (bad self.new) NeverWorn result };
+            (last_failed self.new) (bad self.new) NeverWorn result };
 
     /// Makes a step, all of it or nothing. The counts are exact after it; a node whose count has
     /// fallen to 0 goes, and what it alone named too. One visit for each made node.
@@ -78,7 +81,7 @@ pub trait NodeStore {
             (visit_count self.new ≡ visited (visit_count self.old) (length step.made)) }
         ensures err_visits { OnErr result (visit_count self.new ≡ visit_count self.old) }
         ensures cause { HasMapCause (fault_count self.old) (fault_count self.new)
-            (bad self.new) (IsWornBy (table self.old) step) result };
+            (last_failed self.new) (bad self.new) (IsWornBy (table self.old) step) result };
 
     /// Puts messages after those that wait in the root: the commit of the root changed so, for the
     /// cost of the messages alone where nobody else holds the root's node. No visit.
@@ -94,7 +97,7 @@ pub trait NodeStore {
             (OnlyReadsBy is_known nodes table reads loans self.old self.new) }
         ensures visits { visit_count self.new ≡ visit_count self.old }
         ensures cause { HasMapCause (fault_count self.old) (fault_count self.new)
-            (bad self.new) NeverWorn result };
+            (last_failed self.new) (bad self.new) NeverWorn result };
 
     /// Puts messages after those that wait in the root, and new nodes under the next ids, which the
     /// messages and one another may name: the commit of the root changed so, for the cost of the
@@ -117,7 +120,8 @@ pub trait NodeStore {
             (visit_count self.new ≡ visited (visit_count self.old) (length made)) }
         ensures err_visits { OnErr result (visit_count self.new ≡ visit_count self.old) }
         ensures cause { HasMapCause (fault_count self.old) (fault_count self.new)
-            (bad self.new) (IsWornByAdding (table self.old) made list) result };
+            (last_failed self.new) (bad self.new)
+            (IsWornByAdding (table self.old) made list) result };
 
     /// Lets messages go down from a private node to its private child: the commit of both changed
     /// so, for the cost of what goes down and of a look at what else waits in the two where these
@@ -137,7 +141,7 @@ pub trait NodeStore {
             (OnlyReadsBy is_known nodes table reads loans self.old self.new) }
         ensures visits { visit_count self.new ≡ visit_count self.old }
         ensures cause { HasMapCause (fault_count self.old) (fault_count self.new)
-            (bad self.new) NeverWorn result };
+            (last_failed self.new) (bad self.new) NeverWorn result };
 
     /// The root's id. It is kept, and an inner node.
     fn root(&self) -> u64
@@ -201,6 +205,8 @@ impl<S: NodeStore> NodeStore for &mut S {
     ghost visit_count = { λ s. S.visit_count s.now };
 
     ghost fault_count = { λ s. S.fault_count s.now };
+
+    ghost last_failed = { λ s. S.last_failed s.now };
 
     ghost bad = { λ s. S.bad s.now };
 

@@ -28,7 +28,7 @@ pub fn fetch<S: NodeStore>(store: &mut S, id: u64) -> Result<Fetched, MapFault>
     ensures left { OnlyReads S.NodeStore store.old store.new }
     ensures visits { S.visit_count store.new ≡ visited (S.visit_count store.old) 1 }
     ensures cause { HasMapCause (S.fault_count store.old) (S.fault_count store.new)
-        (S.bad store.new) NeverWorn result }
+        (S.last_failed store.new) (S.bad store.new) NeverWorn result }
 {
     let node = store.fetch(id)?;
     Ok(Fetched { id, node })

@@ -1,5 +1,5 @@
 -- Which nodes a way down asks, and how many visits that makes.
-use Rattle.std.proofs.Common.{◌≡◌, ℕ, zero, suc, ◌+◌, ◌≤◌, true, false, cond, List, [], ◌∷◌, length, drop, refl, sym, ap, subst, ◌∙◌, Option, None, Some, arith, inl, inr}
+use Rattle.std.proofs.Common.{◌≡◌, ℕ, zero, suc, ◌+◌, ◌≤◌, true, false, cond, List, [], ◌∷◌, length, drop, refl, sym, ap, subst, ◌∙◌, Option, None, Some, Result, Ok, Err, OnErr, arith, inl, inr}
 use Rattle.std.specs.Prelude.{slice_get}
 use Rattle.std.proofs.lemmas.Bool.{cond-true, cond-false}
 use Rattle.std.proofs.lemmas.Option.{same_Some, none-some, slice_get_within}
@@ -12,7 +12,7 @@ use Rattle.bd_node.specs.Meaning.{Nodes}
 use Rattle.bd_node.specs.Stores.{visited, AreVisits}
 use Rattle.bd_node.specs.Tables.{Table, IsKept, IsStored, IsSound}
 use Rattle.bd_node.specs.Touching.{touches, NoneTouches}
-use Rattle.bd_query.specs.Asks.{Question, asked_by, asked_after, asked_at, asked_of, ends_here, goes_down, IsAfterLast, none_yet, one_more, AreVisitsOfWay, AreVisitsOfRest, AreFewOfRest, AreVisitsOfWays}
+use Rattle.bd_query.specs.Asks.{Question, asked_by, asked_after, asked_at, asked_of, IsWayDown, ends_here, goes_down, IsWayBegun, stops_here, goes_on, IsAfterLast, none_yet, one_more, AreVisitsOfWay, AreVisitsOfRest, AreVisitsOfPart, AreVisitsOfRestPart, AreFewOfRest, AreVisitsOfWays, AreVisitsOfSome}
 use Rattle.bd_query.specs.Stretches.{IsNewest}
 use Rattle.bd_query.specs.Looks.{IsLowerBase}
 use Rattle.bd_query.specs.declared.part.Base.{Base}
@@ -95,6 +95,48 @@ pub few_with_rest : (t : Table) (level : ℕ) (base : Base) (before now after : 
 few_with_rest t level (Value found) before now after lower one rest = record { number = 1; some = (omega arith); few = (omega arith); counted = rest ∙ one }
 few_with_rest t level (Ask child key) before now after lower one rest = visits_then before now after (t.level child) level one lower.lower rest
 
+-- ---- ways that were begun
+
+-- what holds anyway holds at an error
+pub on_err : {T E P : Type 0} (r : Result T E) → P → OnErr r P
+on_err (Ok x) p = tt
+on_err (Err e) p = p
+
+-- a whole way was
+way_begun : (nodes : Nodes) (id : ℕ) (k : List ℕ) (number : ℕ) → IsWayDown nodes id k number → IsWayBegun nodes id k number
+way_begun nodes id k _ (ends_here _ _ n there none) = stops_here id k
+way_begun nodes id k _ (goes_down _ _ n child l number there asks way) = goes_on id k n child l number there asks (way_begun nodes child l number way)
+
+pub part_of_way : (nodes : Nodes) (id : ℕ) (k : List ℕ) (before after : ℕ) → AreVisitsOfWay nodes id k before after → AreVisitsOfPart nodes id k before after
+part_of_way nodes id k before after way = inr (record { number = way.number; way = way_begun nodes id k way.number way.way; counted = way.counted })
+
+pub part_of_rest : (nodes : Nodes) (asked : Option Question) (before after : ℕ) → AreVisitsOfRest nodes asked before after → AreVisitsOfRestPart nodes asked before after
+part_of_rest nodes None before after rest = rest
+part_of_rest nodes (Some asked) before after way = part_of_way nodes asked.0 asked.1 before after way
+
+-- the first node alone was visited
+pub part_here : (nodes : Nodes) (id : ℕ) (k : List ℕ) (before after : ℕ) → after ≡ visited before 1 → AreVisitsOfPart nodes id k before after
+part_here nodes id k before after one = inr (record { number = 1; way = stops_here id k; counted = one })
+
+-- and some below it
+pub part_goes_on : (nodes : Nodes) (t : Table) (id child : ℕ) (key asked : List ℕ) (before now after : ℕ) → IsSound nodes t → IsKept t id → ((n : Node) → nodes id ≡ Some n → asked_at n key ≡ Some (child, asked)) → now ≡ visited before 1
+    → AreVisitsOfPart nodes child asked now after → AreVisitsOfPart nodes id key before after
+part_goes_on nodes t id child key asked before now after sound kept asks one part = elim part [
+  | inl none ↦ part_here nodes id key before after (none ∙ one)
+  | inr begun ↦
+      let stored : IsStored nodes t id = sound.each id kept in
+      inr (record {
+        number = begun.number + 1;
+        way = goes_on id key stored.node child asked begun.number stored.there (asks stored.node stored.there) begun.way;
+        counted = begun.counted ∙ ap (λ (n : ℕ). visited n begun.number) one ∙ visited_more before 1 begun.number;
+      })
+]
+
+pub part_with_rest : (nodes : Nodes) (t : Table) (id : ℕ) (key : List ℕ) (asked : Option Question) (before now after : ℕ) → IsSound nodes t → IsKept t id → ((n : Node) → nodes id ≡ Some n → asked_at n key ≡ asked) → now ≡ visited before 1
+    → AreVisitsOfRestPart nodes asked now after → AreVisitsOfPart nodes id key before after
+part_with_rest nodes t id key None before now after sound kept asks one rest = part_here nodes id key before after (rest ∙ one)
+part_with_rest nodes t id key (Some asked) before now after sound kept asks one rest = part_goes_on nodes t id asked.0 key asked.1 before now after sound kept asks one rest
+
 -- ---- searches
 
 -- what a search has visited before it asks at a key
@@ -130,3 +172,27 @@ searching_begun nodes root from low before least = record {
   visits = record { number = 0; last = None; ways = none_yet; counted = inr (refl, refl) };
   next = least;
 }
+
+-- ---- searches that fail
+
+pub searched_whole : (nodes : Nodes) (root : ℕ) (from : List ℕ) (before after : ℕ) → AreVisitsOfWays nodes root from before after → AreVisitsOfSome nodes root from before after
+searched_whole nodes root from before after ways = record { now = after; done = ways; begun = inl refl }
+
+pub searched_none : (nodes : Nodes) (root : ℕ) (from : List ℕ) (before : ℕ) → AreVisitsOfSome nodes root from before before
+searched_none nodes root from before = searched_whole nodes root from before before (searching_begun nodes root from from before (not_below_itself from)).visits
+
+-- on the way down along a key
+pub searched_part : (nodes : Nodes) (root : ℕ) (from low slice : List ℕ) (before now after : ℕ) → slice ≡ low → IsSearching nodes root from low before now → AreVisitsOfPart nodes root slice now after → AreVisitsOfSome nodes root from before after
+searched_part nodes root from low slice before now after same h part = record {
+  now = now;
+  done = h.visits;
+  begun = elim part [
+    | inl none ↦ inl none
+    | inr begun ↦ inr (record { key = slice; next = subst (λ (k : List ℕ). IsAfterLast from h.visits.last k) (sym same) h.next; visits = begun })
+  ];
+}
+
+-- and at its end
+pub searched_along : (nodes : Nodes) (root : ℕ) (from low slice : List ℕ) (before now after : ℕ) → slice ≡ low → IsSearching nodes root from low before now → AreVisitsOfWay nodes root slice now after → AreVisitsOfSome nodes root from before after
+searched_along nodes root from low slice before now after same h way =
+    searched_whole nodes root from before after (searched_last nodes root from low slice before now after same h way)

@@ -72,6 +72,13 @@ pub data IsWayDown (nodes : Nodes) : ℕ → List ℕ → ℕ → Type 0 where
       → nodes id ≡ Some n → asked_at n k ≡ Some (child, l) → IsWayDown nodes child l number
       → IsWayDown nodes id k (number + 1)
 
+-- these are the first nodes, so many, that are asked one below the other, the first one at the key
+pub data IsWayBegun (nodes : Nodes) : ℕ → List ℕ → ℕ → Type 0 where
+  stops_here : (id : ℕ) (k : List ℕ) → IsWayBegun nodes id k 1
+  goes_on : (id : ℕ) (k : List ℕ) (n : Node) (child : ℕ) (l : List ℕ) (number : ℕ)
+      → nodes id ≡ Some n → asked_at n k ≡ Some (child, l) → IsWayBegun nodes child l number
+      → IsWayBegun nodes id k (number + 1)
+
 -- the next key of a search: the first is at least where it begins, each later one above the last
 abbrev pub IsAfterLast : List ℕ → Option (List ℕ) → List ℕ → Type 0
 IsAfterLast from None k = IsAtLeast k from
@@ -95,6 +102,22 @@ abbrev pub AreVisitsOfRest : Nodes → Option Question → ℕ → ℕ → Type 
 AreVisitsOfRest nodes None before after = after ≡ before
 AreVisitsOfRest nodes (Some asked) before after = AreVisitsOfWay nodes asked.0 asked.1 before after
 
+-- as many visits as the first nodes on a way down, none where none was visited
+pub record AreVisitsOfBegun (nodes : Nodes) (id : ℕ) (k : List ℕ) (before after : ℕ) : Type 0 where
+  pub number : ℕ
+  pub way : IsWayBegun nodes id k number
+  pub counted : after ≡ visited before number
+
+abbrev pub AreVisitsOfPart : Nodes → ℕ → List ℕ → ℕ → ℕ → Type 0
+AreVisitsOfPart nodes id k before after =
+    (after ≡ before) ⊎ AreVisitsOfBegun nodes id k before after
+
+-- the same of the way that is left
+abbrev pub AreVisitsOfRestPart : Nodes → Option Question → ℕ → ℕ → Type 0
+AreVisitsOfRestPart nodes None before after = after ≡ before
+AreVisitsOfRestPart nodes (Some asked) before after =
+    AreVisitsOfPart nodes asked.0 asked.1 before after
+
 -- so many visits, of at most as many nodes as levels from the one down that is asked
 abbrev pub AreFewOfRest : Table → Option Question → ℕ → ℕ → Type 0
 AreFewOfRest t None before after = after ≡ before
@@ -107,3 +130,17 @@ pub record AreVisitsOfWays (nodes : Nodes) (root : ℕ) (from : List ℕ) (befor
   pub last : Option (List ℕ)
   pub ways : AreWaysDown nodes root from last number
   pub counted : (after ≡ visited before number) ⊎ ((number ≡ 0) × (after ≡ before))
+
+-- as many as the first nodes on a way down along a key after the last one
+pub record AreVisitsOfNext (nodes : Nodes) (root : ℕ) (from : List ℕ) (last : Option (List ℕ))
+    (before after : ℕ) : Type 0 where
+  pub key : List ℕ
+  pub next : IsAfterLast from last key
+  pub visits : AreVisitsOfBegun nodes root key before after
+
+-- as many as on ways down along rising keys, and as the first nodes on one more, if it was begun
+pub record AreVisitsOfSome (nodes : Nodes) (root : ℕ) (from : List ℕ) (before after : ℕ)
+    : Type 0 where
+  pub now : ℕ
+  pub done : AreVisitsOfWays nodes root from before now
+  pub begun : (after ≡ now) ⊎ AreVisitsOfNext nodes root from done.last now after

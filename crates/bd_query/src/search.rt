@@ -1,13 +1,13 @@
 //! The search for the least keys.
 
-ghost use Rattle.std.specs.Prelude.{◌≡◌, ◌≤◌, ℕ, List, [], ◌∷◌, length, IfOk, OnOk};
+ghost use Rattle.std.specs.Prelude.{◌≡◌, ◌≤◌, ℕ, List, [], ◌∷◌, length, IfOk, OnOk, OnErr};
 ghost use Rattle.std.specs.Option.{option_map};
 ghost use Rattle.bd_keys.specs.Keys.{IsAtLeast};
 ghost use Rattle.bd_message.specs.KeyMaps.{HasMapCause, NeverWorn, IsNextEntry};
 ghost use Rattle.bd_node.specs.Frames.{OfSound, OnlyReads};
 ghost use Rattle.bd_node.specs.Meaning.{at};
 ghost use Rattle.bd_node.specs.Tables.{IsKept};
-ghost use Rattle.bd_query.specs.Asks.{AreVisitsOfWays};
+ghost use Rattle.bd_query.specs.Asks.{AreVisitsOfWays, AreVisitsOfSome};
 ghost use Rattle.bd_query.specs.Runs.{found_of};
 ghost use Rattle.bd_scan.specs.Scans.{IsScan};
 ghost use Rattle.bd_scan.specs.declared.scan.Found.{Found};
@@ -20,12 +20,13 @@ use bd_node::{Entry, NodeStore};
 use bd_scan::Found;
 use std::alloc::{AllocError, Global};
 
-/// What stands at the keys of a kept node from `from` on that begin with `within`, of any length, the
-/// least first and none left out: at least one and at most `most`, and none where there is none. Each
-/// turn rules out the keys from one up to another; the search ends at that one where the turn finds
-/// that it has a value, or finds entries after it, and else goes on there. The nodes that are visited
-/// are those that are asked on ways down along these keys; a way goes no further where a cut decides,
-/// so what lies below a range that was cut is not visited.
+/// What stands at the keys of a kept node from `from` on that begin with `within`, of any length,
+/// the least first and none left out: at least one and at most `most`, and none where there is
+/// none. Each turn rules out the keys from one up to another; the search ends at that one where the
+/// turn finds that it has a value, or finds entries after it, and else goes on there. The nodes
+/// that are visited are those that are asked on ways down along these keys; a way goes no further
+/// where a cut decides, so what lies below a range that was cut is not visited. Where it fails, the
+/// nodes on the last way are perhaps only the first ones.
 pub fn scan<S: NodeStore>(
     alloc: Global,
     store: &mut S,
@@ -41,9 +42,12 @@ pub fn scan<S: NodeStore>(
     ensures few { IfOk result (λ found. length found.items ≤ most) }
     ensures left { OnlyReads S.NodeStore store.old store.new }
     ensures cause { HasMapCause (S.fault_count store.old) (S.fault_count store.new)
-        (S.bad store.new) NeverWorn result }
+        (S.last_failed store.new) (S.bad store.new) NeverWorn result }
     ensures ways { OfSound S.NodeStore store.old
         (OnOk result (AreVisitsOfWays (S.nodes store.old) root from.now
+        (S.visit_count store.old) (S.visit_count store.new))) }
+    ensures err_ways { OfSound S.NodeStore store.old
+        (OnErr result (AreVisitsOfSome (S.nodes store.old) root from.now
         (S.visit_count store.old) (S.visit_count store.new))) }
 {
     let mut low = Vec::from_slice(alloc, greater(from, within))?;
@@ -77,9 +81,12 @@ pub fn next<S: NodeStore>(
         (option_map (λ entry. (entry.0.items, entry.1.items)) found))) }
     ensures left { OnlyReads S.NodeStore store.old store.new }
     ensures cause { HasMapCause (S.fault_count store.old) (S.fault_count store.new)
-        (S.bad store.new) NeverWorn result }
+        (S.last_failed store.new) (S.bad store.new) NeverWorn result }
     ensures ways { OfSound S.NodeStore store.old
         (OnOk result (AreVisitsOfWays (S.nodes store.old) root from.now
+        (S.visit_count store.old) (S.visit_count store.new))) }
+    ensures err_ways { OfSound S.NodeStore store.old
+        (OnErr result (AreVisitsOfSome (S.nodes store.old) root from.now
         (S.visit_count store.old) (S.visit_count store.new))) }
 {
     let mut found = scan(alloc, store, root, from, within, 1)?;

@@ -1,7 +1,7 @@
 //! Turns of a search: each is one way down along a key, and finds the key's value, the first keys
 //! that have one and their values, or up to which key none has one.
 
-ghost use Rattle.std.specs.Prelude.{◌≡◌, ℕ, ◌+◌, ◌≤◌, List, [], ◌++◌, length, take, drop, Some, IfOk, OnOk};
+ghost use Rattle.std.specs.Prelude.{◌≡◌, ℕ, ◌+◌, ◌≤◌, List, [], ◌++◌, length, take, drop, Some, IfOk, OnOk, OnErr};
 ghost use Rattle.std.specs.List.{AllByRecursion};
 ghost use Rattle.bd_limits.specs.Limits.{key_limit};
 ghost use Rattle.bd_keys.specs.Keys.{IsKey, InRange, Begins};
@@ -17,7 +17,7 @@ ghost use Rattle.bd_node.specs.Stores.{visited, AreVisits};
 ghost use Rattle.bd_query.specs.Stretches.{IsEnd, IsAsked, IsStretch, HasEnd, AsksLower, IsTurn, PassesTo, end_limit, way_limit};
 ghost use Rattle.bd_query.specs.Runs.{is_before, raised_entry, raised_run};
 ghost use Rattle.bd_query.specs.declared.turns.Turn.TheVariants as turn;
-ghost use Rattle.bd_query.specs.Asks.{asked_at, asked_in, AreVisitsOfWay};
+ghost use Rattle.bd_query.specs.Asks.{asked_at, asked_in, AreVisitsOfWay, AreVisitsOfPart};
 
 use crate::ends::{bytes_of, joined, lesser};
 use crate::stretch::{Stretch, stretch_of};
@@ -58,13 +58,16 @@ pub fn turn_at<S: NodeStore>(
     ensures bytes { IsKey key.now }
     ensures left { OnlyReads S.NodeStore store.old store.new }
     ensures cause { HasMapCause (S.fault_count store.old) (S.fault_count store.new)
-        (S.bad store.new) NeverWorn result }
+        (S.last_failed store.new) (S.bad store.new) NeverWorn result }
     ensures visits { OnOk result (AreVisits 1 ((S.table store.old).level id + 1)
         (S.visit_count store.old) (S.visit_count store.new)) }
     ensures few_visits { S.visit_count store.new
         ≤ S.visit_count store.old + ((S.table store.old).level id + 1) }
     ensures way { OfSound S.NodeStore store.old
         (OnOk result (AreVisitsOfWay (S.nodes store.old) id key.now
+        (S.visit_count store.old) (S.visit_count store.new))) }
+    ensures err_way { OfSound S.NodeStore store.old
+        (OnErr result (AreVisitsOfPart (S.nodes store.old) id key.now
         (S.visit_count store.old) (S.visit_count store.new))) }
 {
     let stretch = stretch_at(alloc, store, id, key, most)?;
@@ -110,7 +113,7 @@ fn stretch_at<S: NodeStore>(
     ensures bytes { IsKey key.now }
     ensures left { OnlyReads S.NodeStore store.old store.new }
     ensures cause { HasMapCause (S.fault_count store.old) (S.fault_count store.new)
-        (S.bad store.new) NeverWorn result }
+        (S.last_failed store.new) (S.bad store.new) NeverWorn result }
     ensures visits { S.visit_count store.new ≡ visited (S.visit_count store.old) 1 }
 {
     let node = store.fetch(id)?;

@@ -1,6 +1,6 @@
 //! The way down from a node to what it has at a key.
 
-ghost use Rattle.std.specs.Prelude.{◌≡◌, ℕ, ◌+◌, ◌≤◌, List, [], Some, IsSome, IfOk, OnOk};
+ghost use Rattle.std.specs.Prelude.{◌≡◌, ℕ, ◌+◌, ◌≤◌, List, [], Some, IsSome, IfOk, OnOk, OnErr};
 ghost use Rattle.std.specs.Option.{option_map, unwrap_or};
 ghost use Rattle.bd_keys.specs.Keys.{IsKey};
 ghost use Rattle.bd_message.specs.Effect.{NodesAt};
@@ -12,7 +12,7 @@ ghost use Rattle.bd_node.specs.Meaning.{at};
 ghost use Rattle.bd_node.specs.Tables.{IsKept};
 ghost use Rattle.bd_node.specs.Stores.{visited, AreVisits};
 ghost use Rattle.bd_query.specs.Looks.{patched, base_at, part_at, IsLowerBase};
-ghost use Rattle.bd_query.specs.Asks.{asked_at, asked_of, AreVisitsOfWay, AreVisitsOfRest, AreFewOfRest};
+ghost use Rattle.bd_query.specs.Asks.{asked_at, asked_of, AreVisitsOfWay, AreVisitsOfRest, AreVisitsOfPart, AreVisitsOfRestPart, AreFewOfRest};
 ghost use Rattle.bd_query.specs.declared.part.Base.TheVariants as base;
 
 use crate::part::{Base, Part, part_of};
@@ -23,7 +23,8 @@ use bd_node::NodeStore;
 use std::alloc::{AllocError, Global};
 
 /// What a kept node has at a key, of any length. Each node on the way is visited once, and there
-/// are at most as many as levels from the first one down.
+/// are at most as many as levels from the first one down. Where it fails, the first ones were
+/// visited, or none.
 pub fn get<S: NodeStore>(
     alloc: Global,
     store: &mut S,
@@ -36,13 +37,16 @@ pub fn get<S: NodeStore>(
         option_map (λ value. value.items) found ≡ at (S.nodes store.old) root key.now)) }
     ensures left { OnlyReads S.NodeStore store.old store.new }
     ensures cause { HasMapCause (S.fault_count store.old) (S.fault_count store.new)
-        (S.bad store.new) NeverWorn result }
+        (S.last_failed store.new) (S.bad store.new) NeverWorn result }
     ensures visits { OnOk result (AreVisits 1 ((S.table store.old).level root + 1)
         (S.visit_count store.old) (S.visit_count store.new)) }
     ensures few_visits { S.visit_count store.new
         ≤ S.visit_count store.old + ((S.table store.old).level root + 1) }
     ensures way { OfSound S.NodeStore store.old
         (OnOk result (AreVisitsOfWay (S.nodes store.old) root key.now
+        (S.visit_count store.old) (S.visit_count store.new))) }
+    ensures err_way { OfSound S.NodeStore store.old
+        (OnErr result (AreVisitsOfPart (S.nodes store.old) root key.now
         (S.visit_count store.old) (S.visit_count store.new))) }
 {
     let mut id = root;
@@ -84,7 +88,7 @@ fn fetched<S: NodeStore>(
     ensures bytes { IsKey key.now }
     ensures left { OnlyReads S.NodeStore store.old store.new }
     ensures cause { HasMapCause (S.fault_count store.old) (S.fault_count store.new)
-        (S.bad store.new) NeverWorn result }
+        (S.last_failed store.new) (S.bad store.new) NeverWorn result }
     ensures visits { S.visit_count store.new ≡ visited (S.visit_count store.old) 1 }
 {
     let node = store.fetch(id)?;
@@ -92,7 +96,7 @@ fn fetched<S: NodeStore>(
 }
 
 /// The value that a node's part says, where there is one. The nodes that are visited are those that
-/// are asked on the way down that is left.
+/// are asked on the way down that is left, the first ones where it fails.
 pub fn value_of<S: NodeStore>(alloc: Global, store: &mut S, part: Part) -> Result<Bytes, MapFault>
     requires { (child : ℕ) (key : List ℕ) → part.base ≡ base.Ask child key
         → IsKept (S.table store.old) child }
@@ -101,13 +105,16 @@ pub fn value_of<S: NodeStore>(alloc: Global, store: &mut S, part: Part) -> Resul
         → part_at (at (S.nodes store.old)) part ≡ Some value)) }
     ensures left { OnlyReads S.NodeStore store.old store.new }
     ensures cause { HasMapCause (S.fault_count store.old) (S.fault_count store.new)
-        (S.bad store.new) NeverWorn result }
+        (S.last_failed store.new) (S.bad store.new) NeverWorn result }
     ensures visits { OnOk result (AreFewOfRest (S.table store.old) (asked_of part.base)
         (S.visit_count store.old) (S.visit_count store.new)) }
     ensures few_visits { (level : ℕ) → IsLowerBase (S.table store.old) level part.base
         → S.visit_count store.new ≤ S.visit_count store.old + level }
     ensures way { OfSound S.NodeStore store.old
         (OnOk result (AreVisitsOfRest (S.nodes store.old) (asked_of part.base)
+        (S.visit_count store.old) (S.visit_count store.new))) }
+    ensures err_way { OfSound S.NodeStore store.old
+        (OnErr result (AreVisitsOfRestPart (S.nodes store.old) (asked_of part.base)
         (S.visit_count store.old) (S.visit_count store.new))) }
 {
     let Part { base, patches } = part;
@@ -128,13 +135,16 @@ fn found_at<S: NodeStore>(
         (IfOk result (λ found. found ≡ base_at (at (S.nodes store.old)) first)) }
     ensures left { OnlyReads S.NodeStore store.old store.new }
     ensures cause { HasMapCause (S.fault_count store.old) (S.fault_count store.new)
-        (S.bad store.new) NeverWorn result }
+        (S.last_failed store.new) (S.bad store.new) NeverWorn result }
     ensures visits { OnOk result (AreFewOfRest (S.table store.old) (asked_of first)
         (S.visit_count store.old) (S.visit_count store.new)) }
     ensures few_visits { (level : ℕ) → IsLowerBase (S.table store.old) level first
         → S.visit_count store.new ≤ S.visit_count store.old + level }
     ensures way { OfSound S.NodeStore store.old
         (OnOk result (AreVisitsOfRest (S.nodes store.old) (asked_of first)
+        (S.visit_count store.old) (S.visit_count store.new))) }
+    ensures err_way { OfSound S.NodeStore store.old
+        (OnErr result (AreVisitsOfRestPart (S.nodes store.old) (asked_of first)
         (S.visit_count store.old) (S.visit_count store.new))) }
 {
     match first {

@@ -25,7 +25,7 @@ use Rattle.bd_flush.specs.Children.{CanSplitChild}
 use Rattle.bd_path.specs.Raising.{IsWayUp}
 use Rattle.bd_path.specs.Raising.IsWayUp.{top, one_up}
 use Rattle.bd_path.specs.Flushed.{IsFlushed}
-use Rattle.bd_step.specs.Ways.{HasPending, IsUpToRoot, IsShared, IsDue, IsWaited, IsFromEdge, IsStepFrom, IsStanding, IsReached, IsWayThere}
+use Rattle.bd_step.specs.Ways.{HasPending, IsUpToRoot, IsShared, IsDue, IsWaited, IsFromEdge, IsStepFrom, IsStanding, IsReached, IsWayOf, IsWayThere}
 use Rattle.bd_step.specs.Steps.{IsFlushMade, IsHighAfter, IsWornStep}
 use Rattle.bd_step.proofs.Making.{worn_known}
 use Rattle.bd_node.proofs.Parts.{edge_within}
@@ -269,9 +269,9 @@ push_on_found t m u above node place step (Ok x) table begins due height = recor
 push_on_found t m u above node place step (Err e) table begins due height = tt
 
 -- a fault of the step that is made, after the one before went well
-pub push_cause : {T : Type 0} (before mid now : ℕ) (bad : ℕ → Type 0) (known again : Type 0) (nodes mids : Nodes) (t m : Table) (above : List Fetched) (node : Fetched) (place : ℕ) (step : FlushStep) (r : Result T MapFault) → mid ≡ before → m ≡ t → (known → again × (mids ≡ nodes)) → IsPushStep above node place step → IsDue t step
-    → (known → IsStanding nodes t step) → (known → length (edges_of node.node.value) ≤ 14 → IsReached nodes t node.id place step) → HasMapCause mid now bad (IsWornStep again mids m step) r → HasMapCause before now bad (IsWornPush known nodes t above node place) r
-push_cause before mid now bad known again nodes mids t m above node place step r same table knows begins due stands reached cause =
-    cause_weaker before now bad (IsWornStep known nodes t step) (IsWornPush known nodes t above node place)
-    (λ counter worn. record { step = step; begins = begins; due = due; stands = stands; reached = reached; worn = worn }) r
-    (worn_known before mid now bad known again nodes mids t m step r same table knows cause)
+pub push_cause : {T : Type 0} (before mid now : ℕ) (last : Bool) (bad : ℕ → Type 0) (known again : Type 0) (nodes mids : Nodes) (t m : Table) (above : List Fetched) (node : Fetched) (place : ℕ) (step : FlushStep) (r : Result T MapFault) → mid ≡ before → m ≡ t → (known → again × (mids ≡ nodes)) → IsPushStep above node place step → IsDue t step → IsWayOf t step
+    → (known → IsStanding nodes t step) → (known → length (edges_of node.node.value) ≤ 14 → IsReached nodes t node.id place step) → HasMapCause mid now last bad (IsWornStep again mids m step) r → HasMapCause before now last bad (IsWornPush known nodes t above node place) r
+push_cause before mid now last bad known again nodes mids t m above node place step r same table knows begins due way stands reached cause =
+    cause_weaker before now last bad (IsWornStep known nodes t step) (IsWornPush known nodes t above node place)
+    (λ counter worn. record { step = step; begins = begins; due = due; way = way; stands = stands; reached = reached; worn = worn }) r
+    (worn_known before mid now last bad known again nodes mids t m step r same table knows cause)

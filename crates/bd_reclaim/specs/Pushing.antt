@@ -12,7 +12,7 @@ use Rattle.bd_step.specs.declared.ways.FlushStep.TheVariants.{SplitRoot, At}
 use Rattle.bd_step.specs.declared.ways.Work.TheVariants.{Split, Privatise}
 use Rattle.bd_path.specs.Fetching.{IsEdgeTo, IsWayTo}
 use Rattle.bd_path.specs.Flushed.{IsFlushed}
-use Rattle.bd_step.specs.Ways.{IsDue, IsStepFrom, IsStanding, IsReached}
+use Rattle.bd_step.specs.Ways.{IsDue, IsStepFrom, IsStanding, IsReached, IsWayOf}
 use Rattle.bd_step.specs.Steps.{IsFlushMade, IsHighAfter, IsWornStep}
 
 -- a node with 15 or 16 edges and those above it, the nearest first: it is split, or first the nearest
@@ -67,6 +67,7 @@ pub record IsWornPush (known : Type 0) (nodes : Nodes) (t : Table) (above : List
   pub step : FlushStep
   pub begins : IsPushStep above node place step
   pub due : IsDue t step
+  pub way : IsWayOf t step
   pub stands : known → IsStanding nodes t step
   pub reached : known → length (edges_of node.node.value) ≤ room_edges
       → IsReached nodes t node.id place step

@@ -46,7 +46,7 @@ pub fn reclaim_step<S: NodeStore>(
     ensures few_visits { S.visit_count store.new
         ≤ S.visit_count store.old + reclaim_visits (S.table store.old) step }
     ensures cause { HasMapCause (S.fault_count store.old) (S.fault_count store.new)
-        (S.bad store.new) (IsWornChange (AreKnown S.NodeStore store.old)
+        (S.last_failed store.new) (S.bad store.new) (IsWornChange (AreKnown S.NodeStore store.old)
         (S.nodes store.old) (S.table store.old) step) result }
 {
     match step {
@@ -85,8 +85,8 @@ fn change_edge<S: NodeStore>(
     ensures err { OnErr result (OnlyReads S.NodeStore store.old store.new) }
     ensures few_visits { S.visit_count store.new ≤ S.visit_count store.old }
     ensures cause { HasMapCause (S.fault_count store.old) (S.fault_count store.new)
-        (S.bad store.new) (WearsOut (IsDecideStep (S.table store.old).root node.now place at)
-        (S.table store.old)) result }
+        (S.last_failed store.new) (S.bad store.new) (WearsOut (IsDecideStep (S.table store.old).root
+        node.now place at) (S.table store.old)) result }
 {
     let root = store.root();
     let step = decide_step(alloc, root, node, place, at)?;

@@ -53,8 +53,8 @@ pub fn push_from<S: NodeStore>(
     ensures few_visits { S.visit_count store.new
         ≤ S.visit_count store.old + step_visits (S.table store.old) }
     ensures cause { HasMapCause (S.fault_count store.old) (S.fault_count store.new)
-        (S.bad store.new) (IsWornPush (AreKnown S.NodeStore store.old) (S.nodes store.old)
-        (S.table store.old) above node place) result }
+        (S.last_failed store.new) (S.bad store.new) (IsWornPush (AreKnown S.NodeStore store.old)
+        (S.nodes store.old) (S.table store.old) above node place) result }
 {
     let step = push_step(store, above, node, place)?;
     make(alloc, store, step)
@@ -85,7 +85,7 @@ fn push_step<S: NodeStore>(
         → IfOk result (IsWayThere (S.nodes store.old) (S.table store.old)) }
     ensures left { OnlyReads S.NodeStore store.old store.new }
     ensures cause { HasMapCause (S.fault_count store.old) (S.fault_count store.new)
-        (S.bad store.new) NeverWorn result }
+        (S.last_failed store.new) (S.bad store.new) NeverWorn result }
     ensures few_visits { S.visit_count store.new
         ≤ S.visit_count store.old + (S.table store.old).level (S.table store.old).root }
 {

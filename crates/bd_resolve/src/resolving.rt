@@ -40,7 +40,7 @@ pub fn resolve<S: NodeStore>(
         (IsLowerTarget (S.table store.old) ((S.table store.old).level child + 1)) }
     ensures left { OnlyReads S.NodeStore store.old store.new }
     ensures cause { HasMapCause (S.fault_count store.old) (S.fault_count store.new)
-        (S.bad store.new) NeverWorn result }
+        (S.last_failed store.new) (S.bad store.new) NeverWorn result }
     ensures visits { IfOk result (λ found. AreNoneOr
         ((S.table store.old).level child - target_level (S.table store.old) found)
         (S.visit_count store.old) (S.visit_count store.new)) }
@@ -85,7 +85,7 @@ fn looked_through<S: NodeStore>(
     ensures bytes { IsKey prefix.now }
     ensures left { OnlyReads S.NodeStore store.old store.new }
     ensures cause { HasMapCause (S.fault_count store.old) (S.fault_count store.new)
-        (S.bad store.new) NeverWorn result }
+        (S.last_failed store.new) (S.bad store.new) NeverWorn result }
     ensures visits { S.visit_count store.new ≡ visited (S.visit_count store.old) 1 }
 {
     let node = store.fetch(id)?;

@@ -1,5 +1,5 @@
 -- What the way down finds is enough to make a step.
-use Rattle.std.proofs.Common.{◌≡◌, ℕ, ◌+◌, ◌*◌, List, reverse, ◌<◌, ◌≤◌, sym, ap, subst, ◌∙◌, Option, None, Some, arith, inl, inr, Result, Err}
+use Rattle.std.proofs.Common.{◌≡◌, ℕ, Bool, ◌+◌, ◌*◌, List, reverse, ◌<◌, ◌≤◌, sym, ap, subst, ◌∙◌, Option, None, Some, arith, inl, inr, Result, Err}
 use Rattle.std.specs.List.{AllByRecursion}
 use Rattle.bd_limits.specs.Limits.{soft_limit}
 use Rattle.bd_node.specs.declared.node.Edge.{Edge}
@@ -29,7 +29,7 @@ use Rattle.bd_message.specs.declared.fault.MapFault.{MapFault}
 use Rattle.bd_message.specs.KeyMaps.{HasMapCause}
 use Rattle.bd_message.proofs.Causes.{cause_weaker, cause_passed, cause_after}
 use Rattle.bd_path.proofs.EdgesAt.{child_lower}
-use Rattle.bd_step.specs.Ways.{IsFullestAt, IsFull, IsFullestIn, IsDue, IsWaited, IsStanding, IsToDo, IsToDoAt, IsWayThere}
+use Rattle.bd_step.specs.Ways.{IsFullestAt, IsFull, IsFullestIn, IsDue, IsWaited, IsStanding, IsToDo, IsToDoAt, IsWayOf, IsWayThere}
 use Rattle.bd_node.proofs.Lookup.{each_weaker}
 use Rattle.bd_step.proofs.Abundance.{abundant}
 use Rattle.bd_flush.proofs.GoingDown.{all_plain}
@@ -217,20 +217,20 @@ step_known known again nodes mid t (At site Privatise) step knows h = copy_known
 step_known known again nodes mid t (At site (Carve index)) step knows h = h
 
 -- a step that was found before is refused for the same
-pub worn_known : {T : Type 0} (before mid now : ℕ) (bad : ℕ → Type 0) (known again : Type 0) (nodes mids : Nodes) (t m : Table) (flush : FlushStep) (r : Result T MapFault) → mid ≡ before → m ≡ t → (known → again × (mids ≡ nodes)) → HasMapCause mid now bad (IsWornStep again mids m flush) r
-    → HasMapCause before now bad (IsWornStep known nodes t flush) r
-worn_known before mid now bad known again nodes mids t m flush r same table knows cause =
-    worn_wider before now bad (IsStepOf again mids t flush) (IsStepOf known nodes t flush) (IsTooHigh t flush) (IsTooHigh t flush) t r (λ step is. step_known known again nodes mids t flush step knows is) (λ up. up)
-    (cause_after before mid now bad (IsWornStep again mids t flush) r same
-    (subst (λ (v : Table). HasMapCause mid now bad (IsWornStep again mids v flush) r) table cause))
+pub worn_known : {T : Type 0} (before mid now : ℕ) (last : Bool) (bad : ℕ → Type 0) (known again : Type 0) (nodes mids : Nodes) (t m : Table) (flush : FlushStep) (r : Result T MapFault) → mid ≡ before → m ≡ t → (known → again × (mids ≡ nodes)) → HasMapCause mid now last bad (IsWornStep again mids m flush) r
+    → HasMapCause before now last bad (IsWornStep known nodes t flush) r
+worn_known before mid now last bad known again nodes mids t m flush r same table knows cause =
+    worn_wider before now last bad (IsStepOf again mids t flush) (IsStepOf known nodes t flush) (IsTooHigh t flush) (IsTooHigh t flush) t r (λ step is. step_known known again nodes mids t flush step knows is) (λ up. up)
+    (cause_after before mid now last bad (IsWornStep again mids t flush) r same
+    (subst (λ (v : Table). HasMapCause mid now last bad (IsWornStep again mids v flush) r) table cause))
 
 -- the nodes after reads
 pub still_known : (known : Type 0) (nodes mid : Nodes) (t m : Table) → known → mid ≡ nodes → m ≡ t → IsSound nodes t → (known × IsSound mid m) × (mid ≡ nodes)
 still_known known nodes mid t m knows same table sound =
     ((knows, subst (λ (v : Table). IsSound mid v) (sym table) (subst (λ (f : Nodes). IsSound f t) (sym same) sound)), same)
 
-pub flush_cause : {T U : Type 0} (before mid now : ℕ) (bad : ℕ → Type 0) (known again : Type 0) (nodes mids : Nodes) (t m : Table) (flush : FlushStep) (e : MapFault) → mid ≡ before → m ≡ t → (known → again × (mids ≡ nodes)) → IsToDo t flush → (known → IsToDoAt nodes t flush)
-    → HasMapCause {T = T} mid now bad (IsWornStep again mids m flush) (Err e) → HasMapCause {T = U} before now bad (IsWornToFlush known nodes t) (Err e)
-flush_cause {T} {U} before mid now bad known again nodes mids t m flush e same table knows to_do here cause =
-    cause_weaker {T = U} before now bad (IsWornStep known nodes t flush) (IsWornToFlush known nodes t) (λ counter worn. record { step = flush; to_do = to_do; here = here; worn = worn }) (Err e)
-    (cause_passed before now bad (IsWornStep known nodes t flush) e (worn_known {T = T} before mid now bad known again nodes mids t m flush (Err e) same table knows cause))
+pub flush_cause : {T U : Type 0} (before mid now : ℕ) (last : Bool) (bad : ℕ → Type 0) (known again : Type 0) (nodes mids : Nodes) (t m : Table) (flush : FlushStep) (e : MapFault) → mid ≡ before → m ≡ t → (known → again × (mids ≡ nodes)) → IsToDo t flush → IsWayOf t flush → (known → IsToDoAt nodes t flush)
+    → HasMapCause {T = T} mid now last bad (IsWornStep again mids m flush) (Err e) → HasMapCause {T = U} before now last bad (IsWornToFlush known nodes t) (Err e)
+flush_cause {T} {U} before mid now last bad known again nodes mids t m flush e same table knows to_do way here cause =
+    cause_weaker {T = U} before now last bad (IsWornStep known nodes t flush) (IsWornToFlush known nodes t) (λ counter worn. record { step = flush; to_do = to_do; way = way; here = here; worn = worn }) (Err e)
+    (cause_passed before now last bad (IsWornStep known nodes t flush) e (worn_known {T = T} before mid now last bad known again nodes mids t m flush (Err e) same table knows cause))

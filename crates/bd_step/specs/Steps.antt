@@ -20,7 +20,7 @@ use Rattle.bd_flush.specs.Children.{IsLongPivot}
 use Rattle.bd_flush.specs.Between.{IsSplitStep, IsHighSplit}
 use Rattle.bd_flush.specs.Pushing.{IsSomePush, IsHighPush, IsNewStep, IsLongPush}
 use Rattle.bd_flush.specs.Carving.{IsCarveStep}
-use Rattle.bd_step.specs.Ways.{AtRootOr, IsToDo, IsToDoAt}
+use Rattle.bd_step.specs.Ways.{AtRootOr, IsToDo, IsToDoAt, IsWayOf}
 use Rattle.bd_copy.specs.Privatising.{IsPrivatiseStep}
 
 -- ---- the kinds of a step
@@ -66,11 +66,12 @@ IsWornStep known nodes t step counter =
     IsWornFor (IsStepOf known nodes t step) (IsTooHigh t step) t counter
 
 -- why no step of a flush is made: a counter has to pass its last value for all that the step adds that
--- the way down finds, where the nodes may be known or not
+-- the way down from the root finds, where the nodes may be known or not
 pub record IsWornToFlush (known : Type 0) (nodes : Nodes) (t : Table) (counter : Counter) : Type 0
   where
     pub step : FlushStep
     pub to_do : IsToDo t step
+    pub way : IsWayOf t step
     pub here : known → IsToDoAt nodes t step
     pub worn : IsWornStep known nodes t step counter
 

@@ -40,7 +40,7 @@ pub fn flush_step<S: NodeStore>(
     ensures few_visits { S.visit_count store.new
         ≤ S.visit_count store.old + step_visits (S.table store.old) }
     ensures cause { HasMapCause (S.fault_count store.old) (S.fault_count store.new)
-        (S.bad store.new) (IsWornToFlush (AreKnown S.NodeStore store.old)
+        (S.last_failed store.new) (S.bad store.new) (IsWornToFlush (AreKnown S.NodeStore store.old)
         (S.nodes store.old) (S.table store.old)) result }
 {
     if store.root_size() <= limit {
@@ -74,7 +74,7 @@ pub fn make<S: NodeStore>(alloc: Global, store: &mut S, step: FlushStep) -> Resu
     ensures few_visits { S.visit_count store.new ≤ S.visit_count store.old
         + (4 + 17 * (S.table store.old).level (S.table store.old).root) }
     ensures cause { HasMapCause (S.fault_count store.old) (S.fault_count store.new)
-        (S.bad store.new) (IsWornStep (AreKnown S.NodeStore store.old)
+        (S.last_failed store.new) (S.bad store.new) (IsWornStep (AreKnown S.NodeStore store.old)
         (S.nodes store.old) (S.table store.old) step) result }
 {
     match step {
@@ -110,7 +110,7 @@ fn work_at<S: NodeStore>(
     ensures few_visits { S.visit_count store.new ≤ S.visit_count store.old
         + (4 + 17 * (S.table store.old).level (S.table store.old).root) }
     ensures cause { HasMapCause (S.fault_count store.old) (S.fault_count store.new)
-        (S.bad store.new) (IsWornStep (AreKnown S.NodeStore store.old)
+        (S.last_failed store.new) (S.bad store.new) (IsWornStep (AreKnown S.NodeStore store.old)
         (S.nodes store.old) (S.table store.old) (step.At site work)) result }
 {
     let Site {

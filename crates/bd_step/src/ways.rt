@@ -69,7 +69,7 @@ pub fn next_step<S: NodeStore>(alloc: Global, store: &mut S) -> Result<FlushStep
         (IfOk result (IsWayThere (S.nodes store.old) (S.table store.old))) }
     ensures left { OnlyReads S.NodeStore store.old store.new }
     ensures cause { HasMapCause (S.fault_count store.old) (S.fault_count store.new)
-        (S.bad store.new) NeverWorn result }
+        (S.last_failed store.new) (S.bad store.new) NeverWorn result }
     ensures few_visits { S.visit_count store.new
         ≤ S.visit_count store.old + ((S.table store.old).level (S.table store.old).root + 1) }
 {
@@ -111,7 +111,7 @@ pub fn step_from<S: NodeStore>(
         → IfOk result (IsWayThere (S.nodes store.old) (S.table store.old)) }
     ensures left { OnlyReads S.NodeStore store.old store.new }
     ensures cause { HasMapCause (S.fault_count store.old) (S.fault_count store.new)
-        (S.bad store.new) NeverWorn result }
+        (S.last_failed store.new) (S.bad store.new) NeverWorn result }
     ensures few_visits { S.visit_count store.new
         ≤ S.visit_count store.old + (S.table store.old).level parent.id }
 {
@@ -160,7 +160,7 @@ fn look_from<S: NodeStore>(
         → IfOk result (IsWaySeenAt (S.nodes store.old) (S.table store.old)) }
     ensures left { OnlyReads S.NodeStore store.old store.new }
     ensures cause { HasMapCause (S.fault_count store.old) (S.fault_count store.new)
-        (S.bad store.new) NeverWorn result }
+        (S.last_failed store.new) (S.bad store.new) NeverWorn result }
     ensures few_visits { S.visit_count store.new ≤ S.visit_count store.old + 1 }
 {
     let id = match asks(&parent.node, place) {

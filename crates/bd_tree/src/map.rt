@@ -22,6 +22,8 @@ impl<S: NodeStore> KeyMap for Tree<S> {
 
     ghost fault_count = { λ tree. S.fault_count tree.store };
 
+    ghost last_failed = { λ tree. S.last_failed tree.store };
+
     ghost bad = { λ tree. S.bad tree.store };
 
     ghost worn = { λ tree. IsWornForGraft (S.table tree.store) };

@@ -7,11 +7,11 @@ ghost use Rattle.bd_limits.specs.Limits.{buffer_limit};
 ghost use Rattle.bd_message.specs.KeyMaps.{HasMapCause, NeverWorn, IsApplied, IsNextEntry, CanGraft, IsGrafted};
 ghost use Rattle.bd_node.specs.Frames.{OfSound, OnlyReads, Stays};
 ghost use Rattle.bd_node.specs.Meaning.{at};
-ghost use Rattle.bd_node.specs.Tables.{IsKept, IsSound, root_at};
+ghost use Rattle.bd_node.specs.Tables.{IsKept, IsSound, kept_count, root_at};
 ghost use Rattle.bd_node.specs.declared.node.Node.{Node};
 ghost use Rattle.bd_node.specs.Steps.{IsCommitted, HasGrown, append_step};
 ghost use Rattle.bd_node.specs.Stores.{FitsRoot, visited, AreVisits};
-ghost use Rattle.bd_query.specs.Asks.{AreVisitsOfWay, AreVisitsOfWays};
+ghost use Rattle.bd_query.specs.Asks.{AreVisitsOfWay, AreVisitsOfPart, AreVisitsOfWays, AreVisitsOfSome};
 ghost use Rattle.bd_graft.specs.Grafting.{IsGrown, IsGraftStep, IsWalkOf, AreOthersSame, IsWornForGraft, IsWornByGraft, OnWorn};
 ghost use Rattle.bd_path.specs.Made.{AreKnown};
 ghost use Rattle.bd_cover.specs.Walking.{IsFirst, HasNone, IsToDo, IsToDoAt, walk_size};
@@ -88,15 +88,16 @@ impl<S: NodeStore> Tree<S> {
         &mut self.store
     }
 
-    /// What stands at a key, of any length. The nodes that are visited are those that are asked on the
-    /// way down along the key, at most as many as the tree is high.
+    /// What stands at a key, of any length. The nodes that are visited are those that are asked on
+    /// the way down along the key, at most as many as the tree is high; the first ones where it
+    /// fails.
     pub fn get(&mut self, key: &[u8]) -> Result<Option<Vec<u8>>, MapFault>
         ensures value { OfSound S.NodeStore self.old.store
             (IfOk result (λ found. option_map (λ value. value.items) found
             ≡ root_at (S.nodes self.old.store) (S.table self.old.store) key.now)) }
         ensures left { OnlyReads S.NodeStore self.old.store self.new.store }
         ensures cause { HasMapCause (S.fault_count self.old.store) (S.fault_count self.new.store)
-            (S.bad self.new.store) NeverWorn result }
+            (S.last_failed self.new.store) (S.bad self.new.store) NeverWorn result }
         ensures visits { OnOk result (AreVisits 1
             ((S.table self.old.store).level (S.table self.old.store).root + 1)
             (S.visit_count self.old.store) (S.visit_count self.new.store)) }
@@ -106,6 +107,10 @@ impl<S: NodeStore> Tree<S> {
             (OnOk result (AreVisitsOfWay (S.nodes self.old.store)
             (S.table self.old.store).root key.now (S.visit_count self.old.store)
             (S.visit_count self.new.store))) }
+        ensures err_way { OfSound S.NodeStore self.old.store
+            (OnErr result (AreVisitsOfPart (S.nodes self.old.store)
+            (S.table self.old.store).root key.now (S.visit_count self.old.store)
+            (S.visit_count self.new.store))) }
         ensures walk { self.new.walk ≡ self.old.walk }
     {
         let root = self.store.root();
@@ -113,8 +118,9 @@ impl<S: NodeStore> Tree<S> {
     }
 
     /// The least key, of any length, that is at least `from`, begins with `within` and has a value,
-    /// and that value. The nodes that are visited are those that are asked on ways down along rising
-    /// keys. A way goes no further where a message gives or takes all of the value.
+    /// and that value. The nodes that are visited are those that are asked on ways down along
+    /// rising keys; where it fails, on the last way perhaps only the first ones. A way goes no
+    /// further where a message gives or takes all of the value.
     pub fn next(
         &mut self,
         from: &[u8],
@@ -126,9 +132,13 @@ impl<S: NodeStore> Tree<S> {
             (option_map (λ entry. (entry.0.items, entry.1.items)) found))) }
         ensures left { OnlyReads S.NodeStore self.old.store self.new.store }
         ensures cause { HasMapCause (S.fault_count self.old.store) (S.fault_count self.new.store)
-            (S.bad self.new.store) NeverWorn result }
+            (S.last_failed self.new.store) (S.bad self.new.store) NeverWorn result }
         ensures ways { OfSound S.NodeStore self.old.store
             (OnOk result (AreVisitsOfWays (S.nodes self.old.store)
+            (S.table self.old.store).root from.now (S.visit_count self.old.store)
+            (S.visit_count self.new.store))) }
+        ensures err_ways { OfSound S.NodeStore self.old.store
+            (OnErr result (AreVisitsOfSome (S.nodes self.old.store)
             (S.table self.old.store).root from.now (S.visit_count self.old.store)
             (S.visit_count self.new.store))) }
         ensures walk { self.new.walk ≡ self.old.walk }
@@ -137,10 +147,11 @@ impl<S: NodeStore> Tree<S> {
         next(self.alloc, &mut self.store, root, from, within)
     }
 
-    /// What stands at the keys from `from` on that begin with `within`, of any length, the least first
-    /// and none left out: at least one and at most `most`, and none where there is none. The nodes that
-    /// are visited are those that are asked on ways down along rising keys. A way goes no further where
-    /// a message gives or takes all of the value.
+    /// What stands at the keys from `from` on that begin with `within`, of any length, the least
+    /// first and none left out: at least one and at most `most`, and none where there is none. The
+    /// nodes that are visited are those that are asked on ways down along rising keys; where it
+    /// fails, on the last way perhaps only the first ones. A way goes no further where a message
+    /// gives or takes all of the value.
     pub fn scan(
         &mut self,
         alloc: Global,
@@ -155,9 +166,13 @@ impl<S: NodeStore> Tree<S> {
         ensures few { IfOk result (λ found. length found.items ≤ most) }
         ensures left { OnlyReads S.NodeStore self.old.store self.new.store }
         ensures cause { HasMapCause (S.fault_count self.old.store) (S.fault_count self.new.store)
-            (S.bad self.new.store) NeverWorn result }
+            (S.last_failed self.new.store) (S.bad self.new.store) NeverWorn result }
         ensures ways { OfSound S.NodeStore self.old.store
             (OnOk result (AreVisitsOfWays (S.nodes self.old.store)
+            (S.table self.old.store).root from.now (S.visit_count self.old.store)
+            (S.visit_count self.new.store))) }
+        ensures err_ways { OfSound S.NodeStore self.old.store
+            (OnErr result (AreVisitsOfSome (S.nodes self.old.store)
             (S.table self.old.store).root from.now (S.visit_count self.old.store)
             (S.visit_count self.new.store))) }
         ensures walk { self.new.walk ≡ self.old.walk }
@@ -205,7 +220,7 @@ impl<S: NodeStore> Tree<S> {
         ensures stays { Stays S.NodeStore self.old.store self.new.store }
         ensures err { OnErr result (OnlyReads S.NodeStore self.old.store self.new.store) }
         ensures cause { HasMapCause (S.fault_count self.old.store) (S.fault_count self.new.store)
-            (S.bad self.new.store) NeverWorn result }
+            (S.last_failed self.new.store) (S.bad self.new.store) NeverWorn result }
         ensures visits { S.visit_count self.new.store ≡ S.visit_count self.old.store }
         ensures walk { self.new.walk ≡ self.old.walk }
     {
@@ -249,7 +264,8 @@ impl<S: NodeStore> Tree<S> {
         ensures err { OnErr result (OnlyReads S.NodeStore self.old.store self.new.store) }
         ensures err_walk { OnErr result (self.new.walk ≡ self.old.walk) }
         ensures cause { HasMapCause (S.fault_count self.old.store) (S.fault_count self.new.store)
-            (S.bad self.new.store) (IsWornForGraft (S.table self.old.store)) result }
+            (S.last_failed self.new.store) (S.bad self.new.store)
+            (IsWornForGraft (S.table self.old.store)) result }
         ensures worn { OfSound S.NodeStore self.old.store
             (IfErr result (OnWorn (IsWornByGraft (S.nodes self.old.store)
             (S.table self.old.store) s.now d.now keep))) }
@@ -275,12 +291,14 @@ impl<S: NodeStore> Tree<S> {
             (IsToDoAt (S.nodes self.old.store) (S.table self.old.store)))) }
         ensures left { OnlyReads S.NodeStore self.old.store self.new.store }
         ensures cause { HasMapCause (S.fault_count self.old.store) (S.fault_count self.new.store)
-            (S.bad self.new.store) NeverWorn result }
+            (S.last_failed self.new.store) (S.bad self.new.store) NeverWorn result }
         ensures few_visits { S.is_known self.old.store → S.visit_count self.new.store
             ≤ S.visit_count self.old.store + walk_size (S.nodes self.old.store)
             (S.table self.old.store)
             ((S.table self.old.store).level (S.table self.old.store).root + 1)
             (S.table self.old.store).root }
+        ensures once { S.visit_count self.new.store
+            ≤ S.visit_count self.old.store + kept_count (S.table self.old.store) }
         ensures walk { self.new.walk ≡ self.old.walk }
     {
         reclaim_next(self.alloc, &mut self.store, pushes)
@@ -314,8 +332,9 @@ impl<S: NodeStore> Tree<S> {
         ensures few_visits { S.visit_count self.new.store
             ≤ S.visit_count self.old.store + reclaim_visits (S.table self.old.store) step }
         ensures cause { HasMapCause (S.fault_count self.old.store) (S.fault_count self.new.store)
-            (S.bad self.new.store) (IsWornChange (AreKnown S.NodeStore self.old.store)
-            (S.nodes self.old.store) (S.table self.old.store) step) result }
+            (S.last_failed self.new.store) (S.bad self.new.store)
+            (IsWornChange (AreKnown S.NodeStore self.old.store) (S.nodes self.old.store)
+            (S.table self.old.store) step) result }
         ensures walk { self.new.walk ≡ self.old.walk }
     {
         reclaim_step(self.alloc, &mut self.store, step)
@@ -356,8 +375,9 @@ impl<S: NodeStore> Tree<S> {
         ensures few_visits { S.visit_count self.new.store
             ≤ S.visit_count self.old.store + step_visits (S.table self.old.store) }
         ensures cause { HasMapCause (S.fault_count self.old.store) (S.fault_count self.new.store)
-            (S.bad self.new.store) (IsWornToFlush (AreKnown S.NodeStore self.old.store)
-            (S.nodes self.old.store) (S.table self.old.store)) result }
+            (S.last_failed self.new.store) (S.bad self.new.store)
+            (IsWornToFlush (AreKnown S.NodeStore self.old.store) (S.nodes self.old.store)
+            (S.table self.old.store)) result }
         ensures walk { self.new.walk ≡ self.old.walk }
     {
         flush_step(self.alloc, &mut self.store, limit)

@@ -30,7 +30,7 @@ returns-clause-table g c =
 
 pub returns-clause-cause : goal.returns-clause-cause
 returns-clause-cause g c =
-    worn_of (g.S.NodeStore.fault_count c.args.store.now) (g.S.NodeStore.fault_count c.commit.new.self) (g.S.NodeStore.bad c.commit.new.self) (IsCopyStep (g.S.NodeStore.table c.args.store.now).root (g.S.NodeStore.table c.args.store.now).next c.args.parent.now c.args.place c.args.copy) ⊥ (g.S.NodeStore.table c.args.store.now) c.in_ok-step.step c.commit.result (is_to_put (g.S.NodeStore.table c.args.store.now) c.args.parent.now c.args.place c.args.copy c.in_ok-step.step c.root-root.result c.next_id-next.result c.root-root.ensures.table c.requires.can c.root-root.ensures.value c.next_id-next.ensures.value (omega arith) c.in_ok-step.ensures).put c.commit.ensures.cause
+    worn_of (g.S.NodeStore.fault_count c.args.store.now) (g.S.NodeStore.fault_count c.commit.new.self) (g.S.NodeStore.last_failed c.commit.new.self) (g.S.NodeStore.bad c.commit.new.self) (IsCopyStep (g.S.NodeStore.table c.args.store.now).root (g.S.NodeStore.table c.args.store.now).next c.args.parent.now c.args.place c.args.copy) ⊥ (g.S.NodeStore.table c.args.store.now) c.in_ok-step.step c.commit.result (is_to_put (g.S.NodeStore.table c.args.store.now) c.args.parent.now c.args.place c.args.copy c.in_ok-step.step c.root-root.result c.next_id-next.result c.root-root.ensures.table c.requires.can c.root-root.ensures.value c.next_id-next.ensures.value (omega arith) c.in_ok-step.ensures).put c.commit.ensures.cause
 
 pub returns-clause-visits : goal.returns-clause-visits
 returns-clause-visits g c =

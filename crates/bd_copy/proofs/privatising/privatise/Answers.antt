@@ -76,7 +76,7 @@ returns-clause-made g c = λ known sound.
 
 pub returns-clause-cause : goal.returns-clause-cause
 returns-clause-cause g c =
-    copy_cause (g.S.NodeStore.fault_count c.args.store.now) (g.S.NodeStore.fault_count c.freed.new.store) (g.S.NodeStore.fault_count c.put_copy.new.store) (g.S.NodeStore.bad c.put_copy.new.store) (AreKnown g.S.NodeStore c.args.store.now) (g.S.NodeStore.nodes c.args.store.now) (g.S.NodeStore.table c.args.store.now) (g.S.NodeStore.table c.fetch.new.store) (g.S.NodeStore.table c.freed.new.store)
+    copy_cause (g.S.NodeStore.fault_count c.args.store.now) (g.S.NodeStore.fault_count c.freed.new.store) (g.S.NodeStore.fault_count c.put_copy.new.store) (g.S.NodeStore.last_failed c.put_copy.new.store) (g.S.NodeStore.bad c.put_copy.new.store) (AreKnown g.S.NodeStore c.args.store.now) (g.S.NodeStore.nodes c.args.store.now) (g.S.NodeStore.table c.args.store.now) (g.S.NodeStore.table c.fetch.new.store) (g.S.NodeStore.table c.freed.new.store)
     c.args.parent.now c.args.place c.index-edges-place.result c.in-Some.id c.in_ok-child.child c.deref-2.result.now c.as_slice.result.now c.in_ok-copy.copy c.put_copy.result (c.in_ok-copy.ensures.cause.kept ∙ c.in_ok-child.ensures.cause.kept)
     (record {
       read = child_read (g.S.NodeStore.table c.args.store.now) c.args.parent.now c.args.place c.in-Some.id c.deref.result.now c.edges.result.now c.index-edges-place.result c.requires.can c.deref.ensures c.edges.ensures c.index-edges-place.is c.in-Some.is;

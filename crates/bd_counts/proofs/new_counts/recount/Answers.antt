@@ -1,10 +1,18 @@
 use Rattle.std.proofs.Common.{◌≡◌, ℕ, sym, subst, [], List}
+use Rattle.std.proofs.lemmas.Result.{err_from_is_err_and}
+use Rattle.bd_message.specs.KeyMaps.{NeverWorn}
+use Rattle.bd_message.proofs.Causes.{cause_after}
 use Rattle.bd_node.specs.declared.node.Step.{Step}
 use Rattle.bd_node.specs.Meaning.{Nodes}
 use Rattle.bd_node.specs.Tables.{Table, IsSound}
+use Rattle.bd_node.specs.Steps.{IsWornBy}
 use Rattle.bd_counts.specs.declared.new_counts.NewCounts.{NewCounts}
 use Rattle.bd_counts.specs.Counting.{overlaid, IsRecount, MakesTable, Commits, IsOwing}
-use Rattle.bd_counts.proofs.Recounting.{begun_recount, begun_owing, makes_table, settled_commits, found_weaker}
+use Rattle.bd_counts.specs.Reading.{FallsBelow}
+use Rattle.bd_counts.specs.Frames.{IsBadFor}
+use Rattle.bd_counts.proofs.Accounts.{begun_accounted, accounted_after, read_before, falls_before}
+use Rattle.bd_counts.proofs.Causes.{fault_wider, cause_wider}
+use Rattle.bd_counts.proofs.Recounting.{begun_recount, begun_owing, makes_table, settled_commits, found_weaker, none_weaker}
 use Rattle.bd_counts.proofs.new_counts.recount.Goals as goal
 
 pub settled-requires-clause-counts : goal.settled-requires-clause-counts
@@ -53,3 +61,46 @@ returns-clause-commits g c = λ known sound.
     (subst (λ (n : Nodes). IsOwing n t step (overlaid t.count r.counts) []) same
     (subst (λ (v : Table). IsOwing new v step (overlaid v.count r.counts) []) left.table h)))
     (c.settled.ensures.settled (left.known known) sound_new)
+
+pub settled-requires-clause-account : goal.settled-requires-clause-account
+settled-requires-clause-account g c = λ known_new.
+    let left = c.in_ok-owed.ensures.left in
+    let step : Step = c.args.step.now in
+    let t : Table = g.S.Counted.table c.args.source.now in
+    let nodes : Nodes = g.S.Counted.nodes c.args.source.now in
+    let known = g.met.S.Counted.reads_known c.args.source.now c.owed_names.new.source left.read known_new in
+    accounted_after nodes (g.S.Counted.nodes c.owed_names.new.source) t (g.S.Counted.table c.owed_names.new.source) step (left.kept known) left.table c.in_ok-counts.counts c.new.result.items c.in_ok-owed.owed.items
+    (begun_accounted nodes t step (overlaid t.count c.in_ok-counts.counts) c.new.result.items c.in_ok-owed.owed.items c.new.ensures.items c.in_ok-counts.ensures.counts (c.in_ok-owed.ensures.owed known))
+
+pub returns-clause-low : goal.returns-clause-low
+returns-clause-low g c =
+    let C = g.S.Counted in
+    let left = c.in_ok-owed.ensures.left in
+    let old = c.args.source.now in
+    let mid = c.owed_names.new.source in
+    none_weaker (C.is_known mid → FallsBelow (C.nodes mid) (C.table mid) c.args.step.now) (C.is_known old → FallsBelow (C.nodes old) (C.table old) c.args.step.now) c.settled.result
+    (λ low known. falls_before (C.nodes old) (C.nodes mid) (C.table old) (C.table mid) c.args.step.now (left.kept known) left.table (low (left.known known)))
+    c.settled.ensures.low
+
+pub returns-clause-cause : goal.returns-clause-cause
+returns-clause-cause g c =
+    let C = g.S.Counted in
+    let left = c.in_ok-owed.ensures.left in
+    let step : Step = c.args.step.now in
+    let old = c.args.source.now in
+    let mid = c.owed_names.new.source in
+    let new = c.settled.new.source in
+    cause_wider (C.fault_count old) (C.fault_count new) (C.last_failed new) (IsBadFor C mid step new) (IsBadFor C old step new) NeverWorn (IsWornBy (C.table old) step)
+    (λ b bad known. let h = bad (left.known known) in (h.0, read_before (C.nodes old) (C.nodes mid) (C.table old) (C.table mid) step (left.kept known) left.table h.0 h.1, h.2))
+    (λ k worn. absurd worn) c.settled.result
+    (cause_after (C.fault_count old) (C.fault_count mid) (C.fault_count new) (C.last_failed new) (IsBadFor C mid step new) NeverWorn c.settled.result c.in_ok-owed.ensures.cause.kept c.settled.ensures.cause)
+
+pub returns-in_err-counts-clause-cause : goal.returns-in_err-counts-clause-cause
+returns-in_err-counts-clause-cause g c =
+    let p = err_from_is_err_and c.from_residual.result c.from_residual.ensures.1 in
+    let C = g.S.Counted in
+    let old = c.args.source.now in
+    let step : Step = c.args.step.now in
+    rw (p.1, p.2)
+    (fault_wider (C.fault_count old) (C.fault_count old) (C.last_failed old) (λ b. ⊥) (IsBadFor C old step old) (IsWornBy (C.table old) step) (IsWornBy (C.table old) step)
+    (λ b no. absurd no) (λ k worn. worn) c.in_err-counts.field-0.0 c.in_err-counts.ensures.cause)

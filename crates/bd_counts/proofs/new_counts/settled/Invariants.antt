@@ -1,7 +1,7 @@
 use Rattle.std.proofs.Common.{◌≡◌, ◌+◌, length}
 use Rattle.bd_node.specs.Tables.{sum_below}
 use Rattle.bd_counts.specs.Counting.{IsRecount, IsOwing}
-use Rattle.bd_counts.specs.Frames.{OfSound, counts_over}
+use Rattle.bd_counts.specs.Frames.{OfSound, IsAccount, counts_over}
 use Rattle.bd_counts.proofs.new_counts.settled.Given as goal
 
 -- the names that are left are owed
@@ -16,6 +16,7 @@ invariant-loop-id g l = record {
   faults : g.S.Counted.fault_count l.source ≡ g.S.Counted.fault_count l.fn.source;
   counts : IsRecount (g.S.Counted.table l.fn.source) l.step (counts_over g.S.Counted l.fn.source l.recount.counts) l.recount.gone.items;
   owing : OfSound g.S.Counted l.fn.source (IsOwing (g.S.Counted.nodes l.fn.source) (g.S.Counted.table l.fn.source) l.step (counts_over g.S.Counted l.fn.source l.recount.counts) l.owed.items);
+  account : IsAccount g.S.Counted l.fn.source l.step l.recount.counts l.recount.gone.items l.owed.items;
 }
 
 -- each name that is taken back is one count less

@@ -11,7 +11,7 @@ use Rattle.bd_counts.proofs.raising.added.Goals as goal
 pub returns-clause-cause : goal.returns-clause-cause
 returns-clause-cause g c =
     let t = g.S.Counted.table c.args.source.now in
-    cause_weaker (g.S.Counted.fault_count c.args.source.now) (g.S.Counted.fault_count c.args.source.now) (g.S.Counted.bad c.args.source.now)
+    cause_weaker (g.S.Counted.fault_count c.args.source.now) (g.S.Counted.fault_count c.args.source.now) (g.S.Counted.last_failed c.args.source.now) (λ b. ⊥)
     (IsWornByNames t.count c.as_slice.result.now) (IsWornByAdding t c.args.made.now c.args.list.now)
     (worn_by_added t c.args.made.now c.args.list.now c.as_slice.result.now (c.as_slice.ensures.value ∙ c.in_ok-names.ensures)) c.raise.result c.raise.ensures.cause
 

@@ -27,4 +27,4 @@ returns-clause-falls g c = λ known sound.
 
 pub returns-clause-cause : goal.returns-clause-cause
 returns-clause-cause g c =
-    shrink_cause (g.S.NodeStore.fault_count c.args.store.now) (g.S.NodeStore.fault_count c.fetch.new.store) (g.S.NodeStore.fault_count c.commit.new.self) (g.S.NodeStore.bad c.commit.new.self) (g.S.NodeStore.table c.args.store.now) (g.S.NodeStore.table c.fetch.new.store) c.args.child c.root_only.result c.commit.result c.in_ok-fetch.ensures.cause.kept c.fetch.ensures.left.table c.root_only.ensures c.commit.ensures.cause
+    shrink_cause (g.S.NodeStore.fault_count c.args.store.now) (g.S.NodeStore.fault_count c.fetch.new.store) (g.S.NodeStore.fault_count c.commit.new.self) (g.S.NodeStore.last_failed c.commit.new.self) (g.S.NodeStore.bad c.commit.new.self) (g.S.NodeStore.table c.args.store.now) (g.S.NodeStore.table c.fetch.new.store) c.args.child c.root_only.result c.commit.result c.in_ok-fetch.ensures.cause.kept c.fetch.ensures.left.table c.root_only.ensures c.commit.ensures.cause

@@ -1,6 +1,8 @@
-use Rattle.std.proofs.Common.{◌≡◌, ℕ, suc, ◌+◌, ◌≤◌}
+use Rattle.std.proofs.Common.{◌≡◌, ℕ, suc, ◌+◌, ◌≤◌, nat_eq}
+use Rattle.std.specs.HashSet.{contains, hash_set_len}
 use Rattle.bd_node.specs.Tables.{IsSound}
-use Rattle.bd_cover.specs.Walking.{HasNoneBefore}
+use Rattle.bd_cover.specs.Walking.{AreCleanUpTo, AreKept, HasNoneBefore}
+use Rattle.bd_cover.proofs.Entered.{AreSince}
 use Rattle.bd_cover.proofs.Visits.{walked_before}
 use Rattle.bd_cover.proofs.walking.+first_from.Given as goal
 
@@ -17,6 +19,12 @@ invariant-loop-edge g l = record {
   loans : g.S.NodeStore.loans l.store ≡ g.S.NodeStore.loans l.fn.store;
   visits : g.S.NodeStore.is_known l.fn.store → (depth : ℕ) → (g.S.NodeStore.table l.fn.store).level l.fn.id ≤ depth
       → g.S.NodeStore.visit_count l.store ≤ g.S.NodeStore.visit_count l.fn.store + suc (walked_before (g.S.NodeStore.nodes l.fn.store) (g.S.NodeStore.table l.fn.store) depth l.edges l.edge-index);
+  kept : AreKept (g.S.NodeStore.table l.fn.store) (contains nat_eq l.fn.entered) → AreKept (g.S.NodeStore.table l.fn.store) (contains nat_eq l.entered);
+  once : g.S.NodeStore.visit_count l.store + hash_set_len l.fn.entered ≤ g.S.NodeStore.visit_count l.fn.store + hash_set_len l.entered;
+  since : g.S.NodeStore.is_known l.fn.store → IsSound (g.S.NodeStore.nodes l.fn.store) (g.S.NodeStore.table l.fn.store)
+      → AreCleanUpTo l.pushes (g.S.NodeStore.nodes l.fn.store) (g.S.NodeStore.table l.fn.store) (contains nat_eq l.fn.entered) ((g.S.NodeStore.table l.fn.store).level l.fn.id)
+      → AreSince l.pushes (g.S.NodeStore.nodes l.fn.store) (g.S.NodeStore.table l.fn.store) l.fn.id (contains nat_eq l.fn.entered) (contains nat_eq l.entered);
   none : g.S.NodeStore.is_known l.fn.store → IsSound (g.S.NodeStore.nodes l.fn.store) (g.S.NodeStore.table l.fn.store)
+      → AreCleanUpTo l.pushes (g.S.NodeStore.nodes l.fn.store) (g.S.NodeStore.table l.fn.store) (contains nat_eq l.fn.entered) ((g.S.NodeStore.table l.fn.store).level l.fn.id)
       → HasNoneBefore l.pushes (g.S.NodeStore.nodes l.fn.store) (g.S.NodeStore.table l.fn.store) l.edges l.edge-index;
 }

@@ -41,12 +41,12 @@ returns-clause-risen g c =
 
 pub returns-clause-cause : goal.returns-clause-cause
 returns-clause-cause g c =
-    worn_of (g.S.NodeStore.fault_count c.args.store.now) (g.S.NodeStore.fault_count c.commit.new.self) (g.S.NodeStore.bad c.commit.new.self) (IsBetweenStep (g.S.NodeStore.table c.args.store.now).root (g.S.NodeStore.table c.args.store.now).next (c.args.parent.now ∷ reverse c.args.above.now) c.args.child.now c.args.halves) (CannotRise (level_of c.args.child.now.node.value + 1) (c.args.parent.now ∷ reverse c.args.above.now)) (g.S.NodeStore.table c.args.store.now) c.in-Ready.step c.commit.result (plan_found (λ (r i : ℕ) (s : Step). IsBetweenStep r i (c.args.parent.now ∷ reverse c.args.above.now) c.args.child.now c.args.halves s) c.root-root.result c.next_id-next.result (CannotRise (level_of c.args.child.now.node.value + 1) (c.args.parent.now ∷ reverse c.args.above.now)) c.in_ok-step.field-0 (g.S.NodeStore.table c.args.store.now) c.in-Ready.step c.in-Ready.is c.root-root.ensures.value c.next_id-next.ensures.value c.in_ok-step.ensures).0 c.commit.ensures.cause
+    worn_of (g.S.NodeStore.fault_count c.args.store.now) (g.S.NodeStore.fault_count c.commit.new.self) (g.S.NodeStore.last_failed c.commit.new.self) (g.S.NodeStore.bad c.commit.new.self) (IsBetweenStep (g.S.NodeStore.table c.args.store.now).root (g.S.NodeStore.table c.args.store.now).next (c.args.parent.now ∷ reverse c.args.above.now) c.args.child.now c.args.halves) (CannotRise (level_of c.args.child.now.node.value + 1) (c.args.parent.now ∷ reverse c.args.above.now)) (g.S.NodeStore.table c.args.store.now) c.in-Ready.step c.commit.result (plan_found (λ (r i : ℕ) (s : Step). IsBetweenStep r i (c.args.parent.now ∷ reverse c.args.above.now) c.args.child.now c.args.halves s) c.root-root.result c.next_id-next.result (CannotRise (level_of c.args.child.now.node.value + 1) (c.args.parent.now ∷ reverse c.args.above.now)) c.in_ok-step.field-0 (g.S.NodeStore.table c.args.store.now) c.in-Ready.step c.in-Ready.is c.root-root.ensures.value c.next_id-next.ensures.value c.in_ok-step.ensures).0 c.commit.ensures.cause
 
 pub returns-in-NoLevel-clause-cause : goal.returns-in-NoLevel-clause-cause
 returns-in-NoLevel-clause-cause g c =
-    too_high (g.S.NodeStore.fault_count c.args.store.now) (g.S.NodeStore.bad c.args.store.now) (IsBetweenStep (g.S.NodeStore.table c.args.store.now).root (g.S.NodeStore.table c.args.store.now).next (c.args.parent.now ∷ reverse c.args.above.now) c.args.child.now c.args.halves) (CannotRise (level_of c.args.child.now.node.value + 1) (c.args.parent.now ∷ reverse c.args.above.now)) (g.S.NodeStore.table c.args.store.now) (plan_high (λ (r i : ℕ) (s : Step). IsBetweenStep r i (c.args.parent.now ∷ reverse c.args.above.now) c.args.child.now c.args.halves s) c.root-root.result c.next_id-next.result (CannotRise (level_of c.args.child.now.node.value + 1) (c.args.parent.now ∷ reverse c.args.above.now)) c.in_ok-step.field-0 c.in-NoLevel.is c.in_ok-step.ensures)
+    too_high (g.S.NodeStore.fault_count c.args.store.now) (g.S.NodeStore.last_failed c.args.store.now) (g.S.NodeStore.bad c.args.store.now) (IsBetweenStep (g.S.NodeStore.table c.args.store.now).root (g.S.NodeStore.table c.args.store.now).next (c.args.parent.now ∷ reverse c.args.above.now) c.args.child.now c.args.halves) (CannotRise (level_of c.args.child.now.node.value + 1) (c.args.parent.now ∷ reverse c.args.above.now)) (g.S.NodeStore.table c.args.store.now) (plan_high (λ (r i : ℕ) (s : Step). IsBetweenStep r i (c.args.parent.now ∷ reverse c.args.above.now) c.args.child.now c.args.halves s) c.root-root.result c.next_id-next.result (CannotRise (level_of c.args.child.now.node.value + 1) (c.args.parent.now ∷ reverse c.args.above.now)) c.in_ok-step.field-0 c.in-NoLevel.is c.in_ok-step.ensures)
 
 pub returns-in-NoId-clause-cause : goal.returns-in-NoId-clause-cause
 returns-in-NoId-clause-cause g c =
-    put_full (g.S.NodeStore.fault_count c.args.store.now) (g.S.NodeStore.bad c.args.store.now) (CannotRise (level_of c.args.child.now.node.value + 1) (c.args.parent.now ∷ reverse c.args.above.now)) (g.S.NodeStore.table c.args.store.now) (c.args.parent.now ∷ reverse c.args.above.now) c.args.child.now c.args.halves c.root-root.result c.next_id-next.result c.in_ok-step.field-0 c.in-NoId.is c.root-root.ensures.value c.next_id-next.ensures.value c.in_ok-step.ensures
+    put_full (g.S.NodeStore.fault_count c.args.store.now) (g.S.NodeStore.last_failed c.args.store.now) (g.S.NodeStore.bad c.args.store.now) (CannotRise (level_of c.args.child.now.node.value + 1) (c.args.parent.now ∷ reverse c.args.above.now)) (g.S.NodeStore.table c.args.store.now) (c.args.parent.now ∷ reverse c.args.above.now) c.args.child.now c.args.halves c.root-root.result c.next_id-next.result c.in_ok-step.field-0 c.in-NoId.is c.root-root.ensures.value c.next_id-next.ensures.value c.in_ok-step.ensures

@@ -29,7 +29,7 @@ returns-clause-table g c =
 
 pub returns-clause-cause : goal.returns-clause-cause
 returns-clause-cause g c =
-    worn_of (g.S.NodeStore.fault_count c.args.store.now) (g.S.NodeStore.fault_count c.commit.new.self) (g.S.NodeStore.bad c.commit.new.self) (IsCarveStep (g.S.NodeStore.table c.args.store.now) c.args.parent.now c.args.place) ⊥ (g.S.NodeStore.table c.args.store.now) c.in_ok-step.step c.commit.result c.in_ok-step.ensures c.commit.ensures.cause
+    worn_of (g.S.NodeStore.fault_count c.args.store.now) (g.S.NodeStore.fault_count c.commit.new.self) (g.S.NodeStore.last_failed c.commit.new.self) (g.S.NodeStore.bad c.commit.new.self) (IsCarveStep (g.S.NodeStore.table c.args.store.now) c.args.parent.now c.args.place) ⊥ (g.S.NodeStore.table c.args.store.now) c.in_ok-step.step c.commit.result c.in_ok-step.ensures c.commit.ensures.cause
 
 pub returns-clause-few_visits : goal.returns-clause-few_visits
 returns-clause-few_visits g c =

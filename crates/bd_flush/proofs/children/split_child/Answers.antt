@@ -30,7 +30,7 @@ pub returns-in_err-commit-clause-cause : goal.returns-in_err-commit-clause-cause
 returns-in_err-commit-clause-cause g c =
     let p = err_from_is_err_and c.from_residual-in_err-commit.result c.from_residual-in_err-commit.ensures.1 in
     rw (p.1, p.2)
-    (split_cause (g.S.NodeStore.fault_count c.args.store.now) (g.S.NodeStore.fault_count c.commit.new.self) (g.S.NodeStore.bad c.commit.new.self) (g.S.NodeStore.table c.args.store.now) (reverse c.args.above.now) c.args.parent.now c.args.place c.args.child.now c.in-Some.step c.in_err-commit.field-0.0
+    (split_cause (g.S.NodeStore.fault_count c.args.store.now) (g.S.NodeStore.fault_count c.commit.new.self) (g.S.NodeStore.last_failed c.commit.new.self) (g.S.NodeStore.bad c.commit.new.self) (g.S.NodeStore.table c.args.store.now) (reverse c.args.above.now) c.args.parent.now c.args.place c.args.child.now c.in-Some.step c.in_err-commit.field-0.0
     (is_to_split_child (g.S.NodeStore.table c.args.store.now) c.args.parent.now c.args.place c.args.child.now c.in-Some.step c.root-root.result c.next_id-next.result c.root-root.ensures.table c.requires.can c.root-root.ensures.value c.next_id-next.ensures.value (omega arith)
     (subst (λ (o : Option Step). MatchOption o (IsLongPivot c.args.parent.now.node.value c.args.place c.args.child.now.node.value) (λ (s : Step). IsChildStep c.root-root.result c.next_id-next.result c.args.parent.now c.args.place c.args.child.now s)) c.in-Some.is c.in_ok-step.ensures)) c.in_err-commit.ensures.cause)
 
@@ -74,4 +74,4 @@ returns-in_default-clause-made g c = λ known sound.
 
 pub returns-in_default-clause-cause : goal.returns-in_default-clause-cause
 returns-in_default-clause-cause g c =
-    worn_wider (g.S.NodeStore.fault_count c.args.store.now) (g.S.NodeStore.fault_count c.put_between.new.store) (g.S.NodeStore.bad c.put_between.new.store) (IsBetweenStep (g.S.NodeStore.table c.args.store.now).root (g.S.NodeStore.table c.args.store.now).next (c.args.parent.now ∷ reverse c.args.above.now) c.args.child.now c.in_ok-halves.halves) (IsSplitStep (g.S.NodeStore.table c.args.store.now) (reverse c.args.above.now) c.args.parent.now c.args.place c.args.child.now) (CannotRise (level_of c.args.child.now.node.value + 1) (c.args.parent.now ∷ reverse c.args.above.now)) (IsHighSplit (reverse c.args.above.now) c.args.parent.now c.args.place c.args.child.now) (g.S.NodeStore.table c.args.store.now) c.put_between.result (λ step is. long c.in_ok-halves.halves (long_pivot c.args.parent.now c.args.place c.args.child.now c.in_ok-step.field-0 (λ (s : Step). IsChildStep c.root-root.result c.next_id-next.result c.args.parent.now c.args.place c.args.child.now s) c.in_default.is c.in_ok-step.ensures) (subst (λ (n : Node). AreHalves n c.in_ok-halves.halves) c.deref.ensures c.in_ok-halves.ensures) is) (λ up. ((long_pivot c.args.parent.now c.args.place c.args.child.now c.in_ok-step.field-0 (λ (s : Step). IsChildStep c.root-root.result c.next_id-next.result c.args.parent.now c.args.place c.args.child.now s) c.in_default.is c.in_ok-step.ensures), up)) c.put_between.ensures.cause
+    worn_wider (g.S.NodeStore.fault_count c.args.store.now) (g.S.NodeStore.fault_count c.put_between.new.store) (g.S.NodeStore.last_failed c.put_between.new.store) (g.S.NodeStore.bad c.put_between.new.store) (IsBetweenStep (g.S.NodeStore.table c.args.store.now).root (g.S.NodeStore.table c.args.store.now).next (c.args.parent.now ∷ reverse c.args.above.now) c.args.child.now c.in_ok-halves.halves) (IsSplitStep (g.S.NodeStore.table c.args.store.now) (reverse c.args.above.now) c.args.parent.now c.args.place c.args.child.now) (CannotRise (level_of c.args.child.now.node.value + 1) (c.args.parent.now ∷ reverse c.args.above.now)) (IsHighSplit (reverse c.args.above.now) c.args.parent.now c.args.place c.args.child.now) (g.S.NodeStore.table c.args.store.now) c.put_between.result (λ step is. long c.in_ok-halves.halves (long_pivot c.args.parent.now c.args.place c.args.child.now c.in_ok-step.field-0 (λ (s : Step). IsChildStep c.root-root.result c.next_id-next.result c.args.parent.now c.args.place c.args.child.now s) c.in_default.is c.in_ok-step.ensures) (subst (λ (n : Node). AreHalves n c.in_ok-halves.halves) c.deref.ensures c.in_ok-halves.ensures) is) (λ up. ((long_pivot c.args.parent.now c.args.place c.args.child.now c.in_ok-step.field-0 (λ (s : Step). IsChildStep c.root-root.result c.next_id-next.result c.args.parent.now c.args.place c.args.child.now s) c.in_default.is c.in_ok-step.ensures), up)) c.put_between.ensures.cause

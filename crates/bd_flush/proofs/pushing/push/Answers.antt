@@ -51,15 +51,15 @@ returns-clause-few_visits g c =
 
 pub returns-clause-cause : goal.returns-clause-cause
 returns-clause-cause g c =
-    worn_of (g.S.NodeStore.fault_count c.args.store.now) (g.S.NodeStore.fault_count c.commit.new.self) (g.S.NodeStore.bad c.commit.new.self) (IsSomePush (g.S.NodeStore.table c.args.store.now).root (g.S.NodeStore.table c.args.store.now).next (reverse c.args.above.now) c.args.parent c.args.place c.args.child) (IsHighPush c.args.parent.node.value c.args.place c.args.child.node.value (reverse c.args.above.now)) (g.S.NodeStore.table c.args.store.now) c.in-Ready.step c.commit.result (some_push (g.S.NodeStore.table c.args.store.now) (reverse c.args.above.now) c.args.parent c.args.place c.args.child c.in-Ready.step (is_planned (g.S.NodeStore.table c.args.store.now) (reverse c.args.above.now) c.args.parent c.args.place c.args.child c.in-Ready.step c.in_ok-push.field-0 c.in-Planned.plan c.root-root.result c.next_id-next.result c.root-root.ensures.table c.requires.can c.requires.way c.root-root.ensures.value c.next_id-next.ensures.value (omega arith) c.in-Planned.is c.in-Ready.is c.in_ok-push.ensures)) c.commit.ensures.cause
+    worn_of (g.S.NodeStore.fault_count c.args.store.now) (g.S.NodeStore.fault_count c.commit.new.self) (g.S.NodeStore.last_failed c.commit.new.self) (g.S.NodeStore.bad c.commit.new.self) (IsSomePush (g.S.NodeStore.table c.args.store.now).root (g.S.NodeStore.table c.args.store.now).next (reverse c.args.above.now) c.args.parent c.args.place c.args.child) (IsHighPush c.args.parent.node.value c.args.place c.args.child.node.value (reverse c.args.above.now)) (g.S.NodeStore.table c.args.store.now) c.in-Ready.step c.commit.result (some_push (g.S.NodeStore.table c.args.store.now) (reverse c.args.above.now) c.args.parent c.args.place c.args.child c.in-Ready.step (is_planned (g.S.NodeStore.table c.args.store.now) (reverse c.args.above.now) c.args.parent c.args.place c.args.child c.in-Ready.step c.in_ok-push.field-0 c.in-Planned.plan c.root-root.result c.next_id-next.result c.root-root.ensures.table c.requires.can c.requires.way c.root-root.ensures.value c.next_id-next.ensures.value (omega arith) c.in-Planned.is c.in-Ready.is c.in_ok-push.ensures)) c.commit.ensures.cause
 
 pub returns-in-NoLevel-clause-cause : goal.returns-in-NoLevel-clause-cause
 returns-in-NoLevel-clause-cause g c =
-    no_level_cause (g.S.NodeStore.fault_count c.args.store.now) (g.S.NodeStore.bad c.args.store.now) (IsSomePush (g.S.NodeStore.table c.args.store.now).root (g.S.NodeStore.table c.args.store.now).next (reverse c.args.above.now) c.args.parent c.args.place c.args.child) (g.S.NodeStore.table c.args.store.now) (reverse c.args.above.now) c.args.parent c.args.place c.args.child c.in_ok-push.field-0 c.in-Planned.plan c.root-root.result c.next_id-next.result c.in-Planned.is c.in-NoLevel.is c.in_ok-push.ensures
+    no_level_cause (g.S.NodeStore.fault_count c.args.store.now) (g.S.NodeStore.last_failed c.args.store.now) (g.S.NodeStore.bad c.args.store.now) (IsSomePush (g.S.NodeStore.table c.args.store.now).root (g.S.NodeStore.table c.args.store.now).next (reverse c.args.above.now) c.args.parent c.args.place c.args.child) (g.S.NodeStore.table c.args.store.now) (reverse c.args.above.now) c.args.parent c.args.place c.args.child c.in_ok-push.field-0 c.in-Planned.plan c.root-root.result c.next_id-next.result c.in-Planned.is c.in-NoLevel.is c.in_ok-push.ensures
 
 pub returns-in-NoId-clause-cause : goal.returns-in-NoId-clause-cause
 returns-in-NoId-clause-cause g c =
-    no_id_cause (g.S.NodeStore.fault_count c.args.store.now) (g.S.NodeStore.bad c.args.store.now) (IsHighPush c.args.parent.node.value c.args.place c.args.child.node.value (reverse c.args.above.now)) (g.S.NodeStore.table c.args.store.now) (reverse c.args.above.now) c.args.parent c.args.place c.args.child c.in_ok-push.field-0 c.in-Planned.plan c.root-root.result c.next_id-next.result c.root-root.ensures.value c.next_id-next.ensures.value c.in-Planned.is c.in-NoId.is c.in_ok-push.ensures
+    no_id_cause (g.S.NodeStore.fault_count c.args.store.now) (g.S.NodeStore.last_failed c.args.store.now) (g.S.NodeStore.bad c.args.store.now) (IsHighPush c.args.parent.node.value c.args.place c.args.child.node.value (reverse c.args.above.now)) (g.S.NodeStore.table c.args.store.now) (reverse c.args.above.now) c.args.parent c.args.place c.args.child c.in_ok-push.field-0 c.in-Planned.plan c.root-root.result c.next_id-next.result c.root-root.ensures.value c.next_id-next.ensures.value c.in-Planned.is c.in-NoId.is c.in_ok-push.ensures
 
 pub push_down-requires-clause-push : goal.push_down-requires-clause-push
 push_down-requires-clause-push g c =
@@ -88,4 +88,4 @@ returns-in-Down-clause-table g c =
 
 pub returns-in-Down-clause-cause : goal.returns-in-Down-clause-cause
 returns-in-Down-clause-cause g c =
-    never_worn (g.S.NodeStore.fault_count c.args.store.now) (g.S.NodeStore.fault_count c.push_down.new.self) (g.S.NodeStore.bad c.push_down.new.self) (IsSomePush (g.S.NodeStore.table c.args.store.now).root (g.S.NodeStore.table c.args.store.now).next (reverse c.args.above.now) c.args.parent c.args.place c.args.child) (IsHighPush c.args.parent.node.value c.args.place c.args.child.node.value (reverse c.args.above.now)) (g.S.NodeStore.table c.args.store.now) c.push_down.result c.push_down.ensures.cause
+    never_worn (g.S.NodeStore.fault_count c.args.store.now) (g.S.NodeStore.fault_count c.push_down.new.self) (g.S.NodeStore.last_failed c.push_down.new.self) (g.S.NodeStore.bad c.push_down.new.self) (IsSomePush (g.S.NodeStore.table c.args.store.now).root (g.S.NodeStore.table c.args.store.now).next (reverse c.args.above.now) c.args.parent c.args.place c.args.child) (IsHighPush c.args.parent.node.value c.args.place c.args.child.node.value (reverse c.args.above.now)) (g.S.NodeStore.table c.args.store.now) c.push_down.result c.push_down.ensures.cause

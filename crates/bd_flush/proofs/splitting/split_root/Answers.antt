@@ -28,8 +28,8 @@ returns-clause-table g c =
 
 pub returns-clause-cause : goal.returns-clause-cause
 returns-clause-cause g c =
-    worn_of (g.S.NodeStore.fault_count c.args.store.now) (g.S.NodeStore.fault_count c.commit.new.self) (g.S.NodeStore.bad c.commit.new.self) (IsRootSplit (g.S.NodeStore.table c.args.store.now) c.args.root.now) ((g.S.NodeStore.table c.args.store.now).level (g.S.NodeStore.table c.args.store.now).root ≡ level_limit) (g.S.NodeStore.table c.args.store.now) c.in-Some.step c.commit.result (root_step (g.S.NodeStore.table c.args.store.now) c.args.root.now c.in_ok-halves.halves c.in-Some.step c.root-id.result c.next_id.result c.level-level.result c.new-others.result.items c.level-level.ensures c.root-id.ensures.value c.next_id.ensures.value c.new-others.ensures.items c.in_ok-halves.ensures (over_found c.root-id.result c.next_id.result c.root-id.result (c.level-level.result + 1) c.in_ok-halves.halves c.new-others.result.items c.in_ok-step.field-0 c.in-Some.step c.in-Some.is c.in_ok-step.ensures).0) c.commit.ensures.cause
+    worn_of (g.S.NodeStore.fault_count c.args.store.now) (g.S.NodeStore.fault_count c.commit.new.self) (g.S.NodeStore.last_failed c.commit.new.self) (g.S.NodeStore.bad c.commit.new.self) (IsRootSplit (g.S.NodeStore.table c.args.store.now) c.args.root.now) ((g.S.NodeStore.table c.args.store.now).level (g.S.NodeStore.table c.args.store.now).root ≡ level_limit) (g.S.NodeStore.table c.args.store.now) c.in-Some.step c.commit.result (root_step (g.S.NodeStore.table c.args.store.now) c.args.root.now c.in_ok-halves.halves c.in-Some.step c.root-id.result c.next_id.result c.level-level.result c.new-others.result.items c.level-level.ensures c.root-id.ensures.value c.next_id.ensures.value c.new-others.ensures.items c.in_ok-halves.ensures (over_found c.root-id.result c.next_id.result c.root-id.result (c.level-level.result + 1) c.in_ok-halves.halves c.new-others.result.items c.in_ok-step.field-0 c.in-Some.step c.in-Some.is c.in_ok-step.ensures).0) c.commit.ensures.cause
 
 pub returns-in_default-clause-cause : goal.returns-in_default-clause-cause
 returns-in_default-clause-cause g c =
-    root_full (g.S.NodeStore.fault_count c.args.store.now) (g.S.NodeStore.bad c.args.store.now) (g.S.NodeStore.table c.args.store.now) c.args.root.now c.in_ok-halves.halves c.next_id.result c.next_id.ensures.value c.in_ok-halves.ensures (over_none c.next_id.result (λ (s : Step). (s ≡ over_step c.root-id.result c.next_id.result c.root-id.result (c.level-level.result + 1) c.in_ok-halves.halves c.new-others.result.items) × (c.next_id.result + 1 < 2 ^ 64)) c.in_ok-step.field-0 c.in_default.is c.in_ok-step.ensures)
+    root_full (g.S.NodeStore.fault_count c.args.store.now) (g.S.NodeStore.last_failed c.args.store.now) (g.S.NodeStore.bad c.args.store.now) (g.S.NodeStore.table c.args.store.now) c.args.root.now c.in_ok-halves.halves c.next_id.result c.next_id.ensures.value c.in_ok-halves.ensures (over_none c.next_id.result (λ (s : Step). (s ≡ over_step c.root-id.result c.next_id.result c.root-id.result (c.level-level.result + 1) c.in_ok-halves.halves c.new-others.result.items) × (c.next_id.result + 1 < 2 ^ 64)) c.in_ok-step.field-0 c.in_default.is c.in_ok-step.ensures)

@@ -41,12 +41,12 @@ returns-then-packed-level-clause-cause g c =
     let room : t.next + length c.in_ok-packed.packed.made.items < 2 ^ 64 = omega (arith, sum_within _ _ _ _ c.checked_add.ensures c.is_none.ensures c.if-is_none.false, c.next_id.ensures.value, count_is c.args.way.end c.args.way.layers.items c.as_slice.result.now c.overlay_count-count.result c.as_slice.ensures.value c.overlay_count-count.ensures, packed_length t c.args.way.end (overlaid c.args.way.end (packs (messages_in c.args.way.layers.items))) c.in_ok-packed.packed c.in_ok-packed.ensures.groups) in
     let ready : IsReady (g.S.NodeStore.is_known c.args.store.now) (g.S.NodeStore.nodes c.args.store.now) t c.args.s.now c.in_ok-packed.packed = way_ready (g.S.NodeStore.is_known c.args.store.now) (g.S.NodeStore.nodes c.args.store.now) t c.args.s.now c.args.way.layers.items c.args.way.end c.in_ok-packed.packed
     c.in_ok-packed.ensures.packed c.in_ok-packed.ensures.groups c.in_ok-packed.ensures.few c.requires.layers c.requires.value c.requires.way (not_found (g.S.NodeStore.is_known c.args.store.now) (g.S.NodeStore.nodes c.args.store.now) t c.args.way.end c.args.way.layers.items c.args.found c.in_default.is c.requires.found) in
-    cause_of (g.S.NodeStore.fault_count c.args.store.now) (g.S.NodeStore.fault_count c.put_under.new.store) (g.S.NodeStore.bad c.put_under.new.store) t
+    cause_of (g.S.NodeStore.fault_count c.args.store.now) (g.S.NodeStore.fault_count c.put_under.new.store) (g.S.NodeStore.last_failed c.put_under.new.store) (g.S.NodeStore.bad c.put_under.new.store) t
     (extend_step t c.requires.root.node c.in_ok-packed.packed.made.items (graft_messages c.args.s.now c.args.d.now c.args.keep c.in_ok-packed.packed.target)) c.put_under.result
     (under_ok (g.S.NodeStore.is_known c.args.store.now) (g.S.NodeStore.nodes c.args.store.now) t c.requires.root.node c.in_ok-packed.packed c.args.s.now c.args.d.now c.args.keep ready c.next_id.ensures.table c.requires.root.is.of_table
     (omega (arith, c.if-packed-level.true, c.level-level.ensures ∙ ap t.level c.root.ensures.value)) c.requires.can.source c.requires.can.target (omega (arith, c.requires.root.is.size, room_is t.size c.requires.can.fits)) room)
     (omega (arith, made)) high (omega arith)
-    (extend_cause (g.S.NodeStore.fault_count c.args.store.now) (g.S.NodeStore.fault_count c.put_under.new.store) (g.S.NodeStore.bad c.put_under.new.store) t c.requires.root.node c.in_ok-packed.packed.made.items (graft_messages c.args.s.now c.args.d.now c.args.keep c.in_ok-packed.packed.target) c.put_under.result (root_inner t c.requires.root.node c.next_id.ensures.table c.requires.root.is) c.put_under.ensures.cause)
+    (extend_cause (g.S.NodeStore.fault_count c.args.store.now) (g.S.NodeStore.fault_count c.put_under.new.store) (g.S.NodeStore.last_failed c.put_under.new.store) (g.S.NodeStore.bad c.put_under.new.store) t c.requires.root.node c.in_ok-packed.packed.made.items (graft_messages c.args.s.now c.args.d.now c.args.keep c.in_ok-packed.packed.target) c.put_under.result (root_inner t c.requires.root.node c.next_id.ensures.table c.requires.root.is) c.put_under.ensures.cause)
 
 pub returns-clause-cause : goal.returns-clause-cause
 returns-clause-cause g c =
@@ -56,7 +56,7 @@ returns-clause-cause g c =
     let room : t.next + length c.in_ok-packed.packed.made.items < 2 ^ 64 = omega (arith, sum_within _ _ _ _ c.checked_add.ensures c.is_none.ensures c.if-is_none.false, c.next_id.ensures.value, count_is c.args.way.end c.args.way.layers.items c.as_slice.result.now c.overlay_count-count.result c.as_slice.ensures.value c.overlay_count-count.ensures, packed_length t c.args.way.end (overlaid c.args.way.end (packs (messages_in c.args.way.layers.items))) c.in_ok-packed.packed c.in_ok-packed.ensures.groups) in
     let ready : IsReady (g.S.NodeStore.is_known c.args.store.now) (g.S.NodeStore.nodes c.args.store.now) t c.args.s.now c.in_ok-packed.packed = way_ready (g.S.NodeStore.is_known c.args.store.now) (g.S.NodeStore.nodes c.args.store.now) t c.args.s.now c.args.way.layers.items c.args.way.end c.in_ok-packed.packed
     c.in_ok-packed.ensures.packed c.in_ok-packed.ensures.groups c.in_ok-packed.ensures.few c.requires.layers c.requires.value c.requires.way (not_found (g.S.NodeStore.is_known c.args.store.now) (g.S.NodeStore.nodes c.args.store.now) t c.args.way.end c.args.way.layers.items c.args.found c.in_default.is c.requires.found) in
-    cause_of (g.S.NodeStore.fault_count c.args.store.now) (g.S.NodeStore.fault_count c.put_over.new.store) (g.S.NodeStore.bad c.put_over.new.store) t
+    cause_of (g.S.NodeStore.fault_count c.args.store.now) (g.S.NodeStore.fault_count c.put_over.new.store) (g.S.NodeStore.last_failed c.put_over.new.store) (g.S.NodeStore.bad c.put_over.new.store) t
     (step_over t c.in_ok-packed.packed.made.items (graft_messages c.args.s.now c.args.d.now c.args.keep c.in_ok-packed.packed.target)) c.put_over.result
     (over_ok (g.S.NodeStore.is_known c.args.store.now) (g.S.NodeStore.nodes c.args.store.now) t c.in_ok-packed.packed c.args.s.now c.args.d.now c.args.keep ready c.next_id.ensures.table high
     (packed_low t c.args.way.layers.items c.args.way.end c.in_ok-packed.packed.level c.next_id.ensures.table c.requires.layers c.in_ok-packed.ensures.low)
@@ -95,9 +95,9 @@ returns-then-packed-level-clause-worn g c = λ known sound.
     let t : Table = g.S.NodeStore.table c.args.store.now in
     let ready : IsReady (g.S.NodeStore.is_known c.args.store.now) (g.S.NodeStore.nodes c.args.store.now) t c.args.s.now c.in_ok-packed.packed = way_ready (g.S.NodeStore.is_known c.args.store.now) (g.S.NodeStore.nodes c.args.store.now) t c.args.s.now c.args.way.layers.items c.args.way.end c.in_ok-packed.packed
     c.in_ok-packed.ensures.packed c.in_ok-packed.ensures.groups c.in_ok-packed.ensures.few c.requires.layers c.requires.value c.requires.way (not_found (g.S.NodeStore.is_known c.args.store.now) (g.S.NodeStore.nodes c.args.store.now) t c.args.way.end c.args.way.layers.items c.args.found c.in_default.is c.requires.found) in
-    worn_under (g.S.NodeStore.fault_count c.args.store.now) (g.S.NodeStore.fault_count c.put_under.new.store) (g.S.NodeStore.bad c.put_under.new.store) (g.S.NodeStore.is_known c.args.store.now) (g.S.NodeStore.nodes c.args.store.now) t c.requires.root.node c.in_ok-packed.packed c.args.s.now c.args.d.now c.args.keep c.put_under.result
+    worn_under (g.S.NodeStore.fault_count c.args.store.now) (g.S.NodeStore.fault_count c.put_under.new.store) (g.S.NodeStore.last_failed c.put_under.new.store) (g.S.NodeStore.bad c.put_under.new.store) (g.S.NodeStore.is_known c.args.store.now) (g.S.NodeStore.nodes c.args.store.now) t c.requires.root.node c.in_ok-packed.packed c.args.s.now c.args.d.now c.args.keep c.put_under.result
     ready known sound (c.requires.root.there known) (omega (arith, c.if-packed-level.true, c.level-level.ensures ∙ ap t.level c.root.ensures.value))
-    (extend_cause (g.S.NodeStore.fault_count c.args.store.now) (g.S.NodeStore.fault_count c.put_under.new.store) (g.S.NodeStore.bad c.put_under.new.store) t c.requires.root.node c.in_ok-packed.packed.made.items (graft_messages c.args.s.now c.args.d.now c.args.keep c.in_ok-packed.packed.target) c.put_under.result (root_inner t c.requires.root.node sound.table c.requires.root.is) c.put_under.ensures.cause)
+    (extend_cause (g.S.NodeStore.fault_count c.args.store.now) (g.S.NodeStore.fault_count c.put_under.new.store) (g.S.NodeStore.last_failed c.put_under.new.store) (g.S.NodeStore.bad c.put_under.new.store) t c.requires.root.node c.in_ok-packed.packed.made.items (graft_messages c.args.s.now c.args.d.now c.args.keep c.in_ok-packed.packed.target) c.put_under.result (root_inner t c.requires.root.node sound.table c.requires.root.is) c.put_under.ensures.cause)
 
 pub returns-then-level-ge-MAX_LEVEL-clause-worn : goal.returns-then-level-ge-MAX_LEVEL-clause-worn
 returns-then-level-ge-MAX_LEVEL-clause-worn g c = λ known sound.
@@ -121,7 +121,7 @@ returns-clause-worn g c = λ known sound.
     let t : Table = g.S.NodeStore.table c.args.store.now in
     let ready : IsReady (g.S.NodeStore.is_known c.args.store.now) (g.S.NodeStore.nodes c.args.store.now) t c.args.s.now c.in_ok-packed.packed = way_ready (g.S.NodeStore.is_known c.args.store.now) (g.S.NodeStore.nodes c.args.store.now) t c.args.s.now c.args.way.layers.items c.args.way.end c.in_ok-packed.packed
     c.in_ok-packed.ensures.packed c.in_ok-packed.ensures.groups c.in_ok-packed.ensures.few c.requires.layers c.requires.value c.requires.way (not_found (g.S.NodeStore.is_known c.args.store.now) (g.S.NodeStore.nodes c.args.store.now) t c.args.way.end c.args.way.layers.items c.args.found c.in_default.is c.requires.found) in
-    worn_over (g.S.NodeStore.fault_count c.args.store.now) (g.S.NodeStore.fault_count c.put_over.new.store) (g.S.NodeStore.bad c.put_over.new.store) (g.S.NodeStore.is_known c.args.store.now) (g.S.NodeStore.nodes c.args.store.now) t c.requires.root.node c.in_ok-packed.packed c.args.s.now c.args.d.now c.args.keep c.put_over.result
+    worn_over (g.S.NodeStore.fault_count c.args.store.now) (g.S.NodeStore.fault_count c.put_over.new.store) (g.S.NodeStore.last_failed c.put_over.new.store) (g.S.NodeStore.bad c.put_over.new.store) (g.S.NodeStore.is_known c.args.store.now) (g.S.NodeStore.nodes c.args.store.now) t c.requires.root.node c.in_ok-packed.packed c.args.s.now c.args.d.now c.args.keep c.put_over.result
     ready known sound (c.requires.root.there known) (omega (arith, c.if-packed-level.false, c.level-level.ensures ∙ ap t.level c.root.ensures.value)) c.put_over.ensures.cause
 
 pub returns-then-is_none-2-clause-cause : goal.returns-then-is_none-2-clause-cause

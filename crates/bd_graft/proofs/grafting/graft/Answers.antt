@@ -77,7 +77,7 @@ returns-in_err-finish-clause-err g c =
 pub returns-in_err-finish-clause-cause : goal.returns-in_err-finish-clause-cause
 returns-in_err-finish-clause-cause g c =
     let p = err_from_is_err_and c.from_residual-in_err-finish.result c.from_residual-in_err-finish.ensures.1 in
-    rw (p.1, p.2) (err_cause (g.S.NodeStore.fault_count c.args.store.now) (g.S.NodeStore.fault_count c.find_overlay.new.store) (g.S.NodeStore.fault_count c.finish.new.store) (g.S.NodeStore.bad c.finish.new.store) (g.S.NodeStore.table c.args.store.now) (g.S.NodeStore.table c.find_overlay.new.store) c.in_err-finish.field-0.0
+    rw (p.1, p.2) (err_cause (g.S.NodeStore.fault_count c.args.store.now) (g.S.NodeStore.fault_count c.find_overlay.new.store) (g.S.NodeStore.fault_count c.finish.new.store) (g.S.NodeStore.last_failed c.finish.new.store) (g.S.NodeStore.bad c.finish.new.store) (g.S.NodeStore.table c.args.store.now) (g.S.NodeStore.table c.find_overlay.new.store) c.in_err-finish.field-0.0
     (c.in_ok-found.ensures.cause.kept ∙ c.in_ok-way.ensures.cause.kept) (c.in_ok-found.ensures.left.table ∙ c.in_ok-way.ensures.left.table) c.in_err-finish.ensures.cause)
 
 pub returns-in_err-finish-clause-worn : goal.returns-in_err-finish-clause-worn

@@ -51,7 +51,7 @@ returns-clause-call g c =
 
 pub returns-clause-cause : goal.returns-clause-cause
 returns-clause-cause g c =
-    worn_step (g.S.NodeStore.fault_count c.args.store.now) (g.S.NodeStore.fault_count c.commit.new.self) (g.S.NodeStore.bad c.commit.new.self) (g.S.NodeStore.table c.args.store.now) c.in_ok-step.step (step_over (g.S.NodeStore.table c.args.store.now) c.args.packed.made.items (graft_messages c.args.s.now c.args.d.now c.args.keep c.args.packed.target)) c.commit.result
+    worn_step (g.S.NodeStore.fault_count c.args.store.now) (g.S.NodeStore.fault_count c.commit.new.self) (g.S.NodeStore.last_failed c.commit.new.self) (g.S.NodeStore.bad c.commit.new.self) (g.S.NodeStore.table c.args.store.now) c.in_ok-step.step (step_over (g.S.NodeStore.table c.args.store.now) c.args.packed.made.items (graft_messages c.args.s.now c.args.d.now c.args.keep c.args.packed.target)) c.commit.result
     (over_ready (g.S.NodeStore.is_known c.args.store.now) (g.S.NodeStore.nodes c.args.store.now) (g.S.NodeStore.table c.args.store.now) c.in_ok-top.top c.args.packed c.args.s.now c.args.d.now c.args.keep c.in_ok-step.step c.root-root.result c.next_id-next.result (c.level-level.result + 1) c.in_ok-indexed.field-0
     c.requires.ready c.root-root.ensures.table c.requires.room c.requires.level c.requires.low c.requires.can.source c.requires.can.target c.root-root.ensures.value c.next_id-next.ensures.value
     (ap (λ (n : ℕ). n + 1) (c.level-level.ensures ∙ ap (g.S.NodeStore.table c.args.store.now).level c.root-root.ensures.value)) (c.in_ok-indexed.ensures ∙ c.in_ok-list.ensures)

@@ -44,5 +44,5 @@ returns-clause-call g c =
 
 pub returns-clause-cause : goal.returns-clause-cause
 returns-clause-cause g c =
-    subst (λ (made : List Node). HasMapCause (g.S.NodeStore.fault_count c.args.store.now) (g.S.NodeStore.fault_count c.extend.new.self) (g.S.NodeStore.bad c.extend.new.self) (IsWornByAdding (g.S.NodeStore.table c.args.store.now) made (graft_messages c.args.s.now c.args.d.now c.args.keep c.args.packed.target)) c.extend.result) c.from_vec.ensures
-    (subst (λ (list : List Message). HasMapCause (g.S.NodeStore.fault_count c.args.store.now) (g.S.NodeStore.fault_count c.extend.new.self) (g.S.NodeStore.bad c.extend.new.self) (IsWornByAdding (g.S.NodeStore.table c.args.store.now) c.from_vec.result list) c.extend.result) (c.from_vec-2.ensures ∙ c.in_ok-list.ensures) c.extend.ensures.cause)
+    subst (λ (made : List Node). HasMapCause (g.S.NodeStore.fault_count c.args.store.now) (g.S.NodeStore.fault_count c.extend.new.self) (g.S.NodeStore.last_failed c.extend.new.self) (g.S.NodeStore.bad c.extend.new.self) (IsWornByAdding (g.S.NodeStore.table c.args.store.now) made (graft_messages c.args.s.now c.args.d.now c.args.keep c.args.packed.target)) c.extend.result) c.from_vec.ensures
+    (subst (λ (list : List Message). HasMapCause (g.S.NodeStore.fault_count c.args.store.now) (g.S.NodeStore.fault_count c.extend.new.self) (g.S.NodeStore.last_failed c.extend.new.self) (g.S.NodeStore.bad c.extend.new.self) (IsWornByAdding (g.S.NodeStore.table c.args.store.now) c.from_vec.result list) c.extend.result) (c.from_vec-2.ensures ∙ c.in_ok-list.ensures) c.extend.ensures.cause)

@@ -1,4 +1,4 @@
-use Rattle.std.proofs.Common.{arith, length, subst, List, ℕ, true≢false, sym, ◌∙◌}
+use Rattle.std.proofs.Common.{arith, subst, List, ℕ, true≢false, sym, ◌∙◌}
 use Rattle.std.specs.Vec.Iter.{into_iter_items}
 use Rattle.bd_keys.specs.Keys.{Begins}
 use Rattle.bd_query.proofs.ScanLemmas.{begun_more, begun_all, begun_full, begun_other}

@@ -6,8 +6,8 @@ use Rattle.bd_node.specs.Tables.{Table, IsSound}
 use Rattle.bd_scan.specs.Scans.{IsScan}
 use Rattle.bd_scan.specs.declared.scan.Found.{Found}
 use Rattle.bd_query.specs.Stretches.{IsTurn, PassesTo, way_limit}
-use Rattle.bd_query.specs.Asks.{AreVisitsOfWay}
-use Rattle.bd_query.proofs.AskLemmas.{IsSearching, searching_begun, searched_last}
+use Rattle.bd_query.specs.Asks.{AreVisitsOfWay, AreVisitsOfPart}
+use Rattle.bd_query.proofs.AskLemmas.{IsSearching, searching_begun, searched_last, searched_none, searched_part, searched_along, on_err}
 use Rattle.bd_query.proofs.ScanLemmas.{alone_scan, none_scan, turned_run, found_few}
 use Rattle.bd_query.proofs.SearchLemmas.{IsLow, turned_ways, low_first, low_other, turned_fewer, turned_low, turned_past, turned_found}
 use Rattle.bd_query.proofs.search.scan.Goals as goal
@@ -152,3 +152,42 @@ returns-in-Run-clause-ways g c known sound =
     subst (λ (n : Nodes). IsSound n (g.S.NodeStore.table c.turns.store)) (sym (inv.nodes known)) (subst (λ (u : Table). IsSound nodes u) (sym inv.table) sound) in
     searched_last nodes c.args.root c.args.from.now c.turns.low.items c.as_slice-in-turns.result.now (g.S.NodeStore.visit_count c.args.store.now) (g.S.NodeStore.visit_count c.turns.store) (g.S.NodeStore.visit_count c.turn_at.new.store) c.as_slice-in-turns.ensures.value (inv.ways known sound)
     (subst (λ (n : Nodes). AreVisitsOfWay n c.args.root c.as_slice-in-turns.result.now (g.S.NodeStore.visit_count c.turns.store) (g.S.NodeStore.visit_count c.turn_at.new.store)) (inv.nodes known) (c.in_ok-turn.ensures.way (inv.known known) still))
+
+pub returns-in_err-low-clause-err_ways : goal.returns-in_err-low-clause-err_ways
+returns-in_err-low-clause-err_ways g c known sound = on_err c.from_residual.result (searched_none (g.S.NodeStore.nodes c.args.store.now) c.args.root c.args.from.now (g.S.NodeStore.visit_count c.args.store.now))
+
+pub returns-in_err-turn-clause-err_ways : goal.returns-in_err-turn-clause-err_ways
+returns-in_err-turn-clause-err_ways g c known sound =
+    let nodes : Nodes = g.S.NodeStore.nodes c.args.store.now in
+    let inv = c.turns.invariant in
+    let still : IsSound (g.S.NodeStore.nodes c.turns.store) (g.S.NodeStore.table c.turns.store) =
+    subst (λ (n : Nodes). IsSound n (g.S.NodeStore.table c.turns.store)) (sym (inv.nodes known)) (subst (λ (u : Table). IsSound nodes u) (sym inv.table) sound) in
+    on_err c.from_residual-in_err-turn.result (searched_part nodes c.args.root c.args.from.now c.turns.low.items c.as_slice-in-turns.result.now (g.S.NodeStore.visit_count c.args.store.now) (g.S.NodeStore.visit_count c.turns.store) (g.S.NodeStore.visit_count c.turn_at.new.store) c.as_slice-in-turns.ensures.value (inv.ways known sound)
+    (subst (λ (n : Nodes). AreVisitsOfPart n c.args.root c.as_slice-in-turns.result.now (g.S.NodeStore.visit_count c.turns.store) (g.S.NodeStore.visit_count c.turn_at.new.store)) (inv.nodes known) (c.in_err-turn.ensures.err_way (inv.known known) still)))
+
+pub returns-in_err-alone-in-Found-clause-err_ways : goal.returns-in_err-alone-in-Found-clause-err_ways
+returns-in_err-alone-in-Found-clause-err_ways g c known sound =
+    let nodes : Nodes = g.S.NodeStore.nodes c.args.store.now in
+    let inv = c.turns.invariant in
+    let still : IsSound (g.S.NodeStore.nodes c.turns.store) (g.S.NodeStore.table c.turns.store) =
+    subst (λ (n : Nodes). IsSound n (g.S.NodeStore.table c.turns.store)) (sym (inv.nodes known)) (subst (λ (u : Table). IsSound nodes u) (sym inv.table) sound) in
+    on_err c.from_residual-in_err-alone-in-Found.result (searched_along nodes c.args.root c.args.from.now c.turns.low.items c.as_slice-in-turns.result.now (g.S.NodeStore.visit_count c.args.store.now) (g.S.NodeStore.visit_count c.turns.store) (g.S.NodeStore.visit_count c.turn_at.new.store) c.as_slice-in-turns.ensures.value (inv.ways known sound)
+    (subst (λ (n : Nodes). AreVisitsOfWay n c.args.root c.as_slice-in-turns.result.now (g.S.NodeStore.visit_count c.turns.store) (g.S.NodeStore.visit_count c.turn_at.new.store)) (inv.nodes known) (c.in_ok-turn.ensures.way (inv.known known) still)))
+
+pub returns-in_err-beginning-in-Run-clause-err_ways : goal.returns-in_err-beginning-in-Run-clause-err_ways
+returns-in_err-beginning-in-Run-clause-err_ways g c known sound =
+    let nodes : Nodes = g.S.NodeStore.nodes c.args.store.now in
+    let inv = c.turns.invariant in
+    let still : IsSound (g.S.NodeStore.nodes c.turns.store) (g.S.NodeStore.table c.turns.store) =
+    subst (λ (n : Nodes). IsSound n (g.S.NodeStore.table c.turns.store)) (sym (inv.nodes known)) (subst (λ (u : Table). IsSound nodes u) (sym inv.table) sound) in
+    on_err c.from_residual-in_err-beginning-in-Run.result (searched_along nodes c.args.root c.args.from.now c.turns.low.items c.as_slice-in-turns.result.now (g.S.NodeStore.visit_count c.args.store.now) (g.S.NodeStore.visit_count c.turns.store) (g.S.NodeStore.visit_count c.turn_at.new.store) c.as_slice-in-turns.ensures.value (inv.ways known sound)
+    (subst (λ (n : Nodes). AreVisitsOfWay n c.args.root c.as_slice-in-turns.result.now (g.S.NodeStore.visit_count c.turns.store) (g.S.NodeStore.visit_count c.turn_at.new.store)) (inv.nodes known) (c.in_ok-turn.ensures.way (inv.known known) still)))
+
+pub returns-in_err-low-in-Passed-Some-clause-err_ways : goal.returns-in_err-low-in-Passed-Some-clause-err_ways
+returns-in_err-low-in-Passed-Some-clause-err_ways g c known sound =
+    let nodes : Nodes = g.S.NodeStore.nodes c.args.store.now in
+    let inv = c.turns.invariant in
+    let still : IsSound (g.S.NodeStore.nodes c.turns.store) (g.S.NodeStore.table c.turns.store) =
+    subst (λ (n : Nodes). IsSound n (g.S.NodeStore.table c.turns.store)) (sym (inv.nodes known)) (subst (λ (u : Table). IsSound nodes u) (sym inv.table) sound) in
+    on_err c.from_residual-in_err-low-in-Passed-Some.result (searched_along nodes c.args.root c.args.from.now c.turns.low.items c.as_slice-in-turns.result.now (g.S.NodeStore.visit_count c.args.store.now) (g.S.NodeStore.visit_count c.turns.store) (g.S.NodeStore.visit_count c.turn_at.new.store) c.as_slice-in-turns.ensures.value (inv.ways known sound)
+    (subst (λ (n : Nodes). AreVisitsOfWay n c.args.root c.as_slice-in-turns.result.now (g.S.NodeStore.visit_count c.turns.store) (g.S.NodeStore.visit_count c.turn_at.new.store)) (inv.nodes known) (c.in_ok-turn.ensures.way (inv.known known) still)))

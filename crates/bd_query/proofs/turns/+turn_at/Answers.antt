@@ -6,10 +6,10 @@ use Rattle.bd_node.specs.Tables.{Table, IsKept, IsLower, IsSound}
 use Rattle.bd_query.specs.declared.stretch.Stretch.{Stretch}
 use Rattle.bd_query.specs.declared.stretch.Stretch.TheVariants.{Present}
 use Rattle.bd_query.specs.Stretches.{IsStretch, IsAsked, AsksLower, IsTurn, PassesTo, end_limit, way_limit}
-use Rattle.bd_query.specs.Asks.{asked_in, asked_of, AreVisitsOfWay, AreVisitsOfRest, AreFewOfRest}
+use Rattle.bd_query.specs.Asks.{asked_in, asked_of, AreVisitsOfWay, AreVisitsOfRest, AreVisitsOfPart, AreVisitsOfRestPart, AreFewOfRest}
 use Rattle.bd_query.specs.Looks.{part_at, IsLowerBase}
 use Rattle.bd_query.proofs.Going.{lower_ask}
-use Rattle.bd_query.proofs.AskLemmas.{way_ends, way_goes_on, way_with_rest, few_with_rest}
+use Rattle.bd_query.proofs.AskLemmas.{way_ends, way_goes_on, way_with_rest, part_of_way, part_here, part_goes_on, part_with_rest, few_with_rest, on_err}
 use Rattle.bd_query.proofs.TurnLemmas.{node_says, passes_weaker, level_more}
 use Rattle.bd_node.proofs.Visited.{visits_then}
 use Rattle.bd_query.proofs.turns.+turn_at.Goals as goal
@@ -138,3 +138,51 @@ pub returns-in-Run-clause-way : goal.returns-in-Run-clause-way
 returns-in-Run-clause-way g t c known sound =
     way_ends (g.S.NodeStore.nodes c.args.store.now) (g.S.NodeStore.table c.args.store.now) c.args.id c.args.key.now (g.S.NodeStore.visit_count c.args.store.now) (g.S.NodeStore.visit_count c.stretch_at.new.store) sound c.requires.kept
     (λ n there. c.in_ok-stretch.ensures.asks known n there ∙ ap (λ (s : Stretch). asked_in s c.args.key.now) c.in-Run.is) c.in_ok-stretch.ensures.visits
+
+pub returns-in_err-stretch-clause-err_way : goal.returns-in_err-stretch-clause-err_way
+returns-in_err-stretch-clause-err_way g t c known sound =
+    on_err c.from_residual.result (part_here (g.S.NodeStore.nodes c.args.store.now) c.args.id c.args.key.now (g.S.NodeStore.visit_count c.args.store.now) (g.S.NodeStore.visit_count c.stretch_at.new.store) c.stretch_at.ensures.visits)
+
+pub returns-in_err-value-in-Present-clause-err_way : goal.returns-in_err-value-in-Present-clause-err_way
+returns-in_err-value-in-Present-clause-err_way g t c known sound =
+    let nodes : Nodes = g.S.NodeStore.nodes c.args.store.now in
+    let same : g.S.NodeStore.nodes c.stretch_at.new.store ≡ nodes = c.in_ok-stretch.ensures.left.kept known in
+    let still : IsSound (g.S.NodeStore.nodes c.stretch_at.new.store) (g.S.NodeStore.table c.stretch_at.new.store) =
+    subst (λ (n : Nodes). IsSound n (g.S.NodeStore.table c.stretch_at.new.store)) (sym same) (subst (λ (u : Table). IsSound nodes u) (sym c.in_ok-stretch.ensures.left.table) sound) in
+    on_err c.from_residual-in_err-value-in-Present.result (part_with_rest nodes (g.S.NodeStore.table c.args.store.now) c.args.id c.args.key.now (asked_of c.in-Present.part.base) (g.S.NodeStore.visit_count c.args.store.now) (g.S.NodeStore.visit_count c.stretch_at.new.store) (g.S.NodeStore.visit_count c.value_of.new.store) sound c.requires.kept
+    (λ n there. c.in_ok-stretch.ensures.asks known n there ∙ ap (λ (s : Stretch). asked_in s c.args.key.now) c.in-Present.is) c.in_ok-stretch.ensures.visits
+    (subst (λ (n : Nodes). AreVisitsOfRestPart n (asked_of c.in-Present.part.base) (g.S.NodeStore.visit_count c.stretch_at.new.store) (g.S.NodeStore.visit_count c.value_of.new.store)) same
+    (c.in_err-value-in-Present.ensures.err_way (c.in_ok-stretch.ensures.left.known known) still)))
+
+pub returns-in_err-asked-in-Child-clause-err_way : goal.returns-in_err-asked-in-Child-clause-err_way
+returns-in_err-asked-in-Child-clause-err_way g t c known sound =
+    on_err c.from_residual-in_err-asked-in-Child.result (part_here (g.S.NodeStore.nodes c.args.store.now) c.args.id c.args.key.now (g.S.NodeStore.visit_count c.args.store.now) (g.S.NodeStore.visit_count c.stretch_at.new.store) c.in_ok-stretch.ensures.visits)
+
+pub returns-in_err-turn-in-Child-clause-err_way : goal.returns-in_err-turn-in-Child-clause-err_way
+returns-in_err-turn-in-Child-clause-err_way g t c known sound =
+    let nodes : Nodes = g.S.NodeStore.nodes c.args.store.now in
+    let same : g.S.NodeStore.nodes c.stretch_at.new.store ≡ nodes = c.in_ok-stretch.ensures.left.kept known in
+    let still : IsSound (g.S.NodeStore.nodes c.stretch_at.new.store) (g.S.NodeStore.table c.stretch_at.new.store) =
+    subst (λ (n : Nodes). IsSound n (g.S.NodeStore.table c.stretch_at.new.store)) (sym same) (subst (λ (u : Table). IsSound nodes u) (sym c.in_ok-stretch.ensures.left.table) sound) in
+    let asked : c.as_slice-in-Child.result.now ≡ c.in-Child.source ++ drop c.in-Child.lift c.args.key.now =
+    c.as_slice-in-Child.ensures ∙ c.in_ok-asked-in-Child.ensures ∙ ap (λ (l : List ℕ). l ++ c.tail.result.now) c.as_slice.ensures ∙ ap (λ (l : List ℕ). c.in-Child.source ++ l) c.tail.ensures in
+    on_err c.from_residual-in_err-turn-in-Child.result (part_goes_on nodes (g.S.NodeStore.table c.args.store.now) c.args.id c.in-Child.child c.args.key.now (c.in-Child.source ++ drop c.in-Child.lift c.args.key.now) (g.S.NodeStore.visit_count c.args.store.now) (g.S.NodeStore.visit_count c.stretch_at.new.store) (g.S.NodeStore.visit_count c.turn_at.new.store) sound c.requires.kept
+    (λ n there. c.in_ok-stretch.ensures.asks known n there ∙ ap (λ (s : Stretch). asked_in s c.args.key.now) c.in-Child.is) c.in_ok-stretch.ensures.visits
+    (subst (λ (k : List ℕ). AreVisitsOfPart nodes c.in-Child.child k (g.S.NodeStore.visit_count c.stretch_at.new.store) (g.S.NodeStore.visit_count c.turn_at.new.store)) asked
+    (subst (λ (n : Nodes). AreVisitsOfPart n c.in-Child.child c.as_slice-in-Child.result.now (g.S.NodeStore.visit_count c.stretch_at.new.store) (g.S.NodeStore.visit_count c.turn_at.new.store)) same
+    (c.in_err-turn-in-Child.ensures.err_way (c.in_ok-stretch.ensures.left.known known) still))))
+
+pub returns-in_err-turn-in-Child-2-clause-err_way : goal.returns-in_err-turn-in-Child-2-clause-err_way
+returns-in_err-turn-in-Child-2-clause-err_way g t c known sound =
+    let nodes : Nodes = g.S.NodeStore.nodes c.args.store.now in
+    let same : g.S.NodeStore.nodes c.stretch_at.new.store ≡ nodes = c.in_ok-stretch.ensures.left.kept known in
+    let still : IsSound (g.S.NodeStore.nodes c.stretch_at.new.store) (g.S.NodeStore.table c.stretch_at.new.store) =
+    subst (λ (n : Nodes). IsSound n (g.S.NodeStore.table c.stretch_at.new.store)) (sym same) (subst (λ (u : Table). IsSound nodes u) (sym c.in_ok-stretch.ensures.left.table) sound) in
+    let asked : c.as_slice-in-Child.result.now ≡ c.in-Child.source ++ drop c.in-Child.lift c.args.key.now =
+    c.as_slice-in-Child.ensures ∙ c.in_ok-asked-in-Child.ensures ∙ ap (λ (l : List ℕ). l ++ c.tail.result.now) c.as_slice.ensures ∙ ap (λ (l : List ℕ). c.in-Child.source ++ l) c.tail.ensures in
+    on_err c.from_residual-in_err-turn-in-Child-2.result (part_of_way nodes c.args.id c.args.key.now (g.S.NodeStore.visit_count c.args.store.now) (g.S.NodeStore.visit_count c.turn_at.new.store)
+    (way_goes_on nodes (g.S.NodeStore.table c.args.store.now) c.args.id c.in-Child.child c.args.key.now (c.in-Child.source ++ drop c.in-Child.lift c.args.key.now) (g.S.NodeStore.visit_count c.args.store.now) (g.S.NodeStore.visit_count c.stretch_at.new.store) (g.S.NodeStore.visit_count c.turn_at.new.store) sound c.requires.kept
+    (λ n there. c.in_ok-stretch.ensures.asks known n there ∙ ap (λ (s : Stretch). asked_in s c.args.key.now) c.in-Child.is) c.in_ok-stretch.ensures.visits
+    (subst (λ (k : List ℕ). AreVisitsOfWay nodes c.in-Child.child k (g.S.NodeStore.visit_count c.stretch_at.new.store) (g.S.NodeStore.visit_count c.turn_at.new.store)) asked
+    (subst (λ (n : Nodes). AreVisitsOfWay n c.in-Child.child c.as_slice-in-Child.result.now (g.S.NodeStore.visit_count c.stretch_at.new.store) (g.S.NodeStore.visit_count c.turn_at.new.store)) same
+    (c.in_ok-turn-in-Child.ensures.way (c.in_ok-stretch.ensures.left.known known) still)))))

@@ -1,6 +1,5 @@
-use Rattle.std.proofs.Common.{◌≡◌, ℕ, ◌++◌, sym, ap, subst, ◌∙◌, Some, None, List, Option, take, drop, length}
-use Rattle.std.proofs.lemmas.Option.{same_Some}
-use Rattle.bd_keys.specs.Keys.{IsKey, Begins}
+use Rattle.std.proofs.Common.{ℕ, ◌++◌, sym, ap, subst, ◌∙◌, Some, None, List, Option, take, drop, length}
+use Rattle.bd_keys.specs.Keys.{Begins}
 use Rattle.bd_message.proofs.Finds.{not_both}
 use Rattle.bd_query.proofs.EndLemmas.{IsRaised, past_all, no_end, raised_here, end_above_end, end_above_inside}
 use Rattle.bd_query.proofs.turns.end_above.Goals as goal

@@ -1,14 +1,9 @@
-use Rattle.std.proofs.Common.{◌≡◌, ◌+◌, ◌≤◌, ◌++◌, sym, ap, subst, ◌∙◌, arith, drop, ℕ, List, Option, Some}
+use Rattle.std.proofs.Common.{◌≡◌, ◌++◌, subst, arith, drop, ℕ, List}
 use Rattle.bd_query.specs.declared.turns.Turn.{Turn}
-use Rattle.std.proofs.lemmas.Option.{same_Some}
-use Rattle.bd_limits.specs.Limits.{key_limit}
-use Rattle.bd_keys.proofs.Order.{IsKey-drop}
-use Rattle.bd_node.proofs.Touched.{least_back}
-use Rattle.bd_query.specs.Stretches.{IsEnd, IsFirst, IsTurn, PassesTo, end_limit}
-use Rattle.bd_query.proofs.EndLemmas.{end_weaker}
+use Rattle.bd_query.specs.Stretches.{IsTurn, PassesTo}
 use Rattle.bd_query.specs.Runs.{raised_run}
 use Rattle.bd_query.proofs.RunLemmas.{raised_turn}
-use Rattle.bd_query.proofs.TurnLemmas.{IsKey-append, raised_empty, raised_found}
+use Rattle.bd_query.proofs.TurnLemmas.{raised_empty, raised_found}
 use Rattle.bd_query.proofs.turns.raised.Goals as goal
 
 pub returns-in-Found-clause-turn : goal.returns-in-Found-clause-turn

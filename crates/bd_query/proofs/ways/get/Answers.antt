@@ -1,4 +1,4 @@
-use Rattle.std.proofs.Common.{ap, sym, ◌∙◌, subst, refl, List, ℕ, ◌<◌}
+use Rattle.std.proofs.Common.{ap, sym, ◌∙◌, subst, refl, inl, List, ℕ, ◌<◌}
 use Rattle.bd_keys.specs.Keys.{IsKey}
 use Rattle.bd_node.specs.Nodes.{node_at}
 use Rattle.bd_node.specs.Meaning.{Nodes, at}
@@ -6,9 +6,9 @@ use Rattle.bd_node.specs.Tables.{Table, IsKept, IsLower}
 use Rattle.bd_query.specs.declared.patch.Patch.{Patch}
 use Rattle.bd_query.specs.declared.part.Base.TheVariants.{Value, Ask}
 use Rattle.bd_query.specs.Looks.{patched}
-use Rattle.bd_query.specs.Asks.{AreVisitsOfWay}
+use Rattle.bd_query.specs.Asks.{AreVisitsOfWay, AreVisitsOfPart}
 use Rattle.bd_query.proofs.Going.{going_on, lower_ask, IsSaid, IsAsking, asking_same}
-use Rattle.bd_query.proofs.AskLemmas.{way_ends, way_goes_on}
+use Rattle.bd_query.proofs.AskLemmas.{way_ends, way_goes_on, part_here, part_goes_on, on_err}
 use Rattle.bd_node.proofs.Visited.{no_visit, visits_one_more, visits_last, visits_at_most}
 use Rattle.bd_query.proofs.ways.get.Goals as goal
 
@@ -36,6 +36,7 @@ loop-patches-init g c = record {
   value = λ known sound. ap (λ (ps : List Patch). patched ps (at (g.S.NodeStore.nodes c.args.store.now) c.args.root c.in_ok-asked.asked)) c.new-patches.ensures.items
       ∙ ap (λ (k : List ℕ). at (g.S.NodeStore.nodes c.args.store.now) c.args.root k) c.in_ok-asked.ensures;
   way = λ known sound final rest. subst (λ (k : List ℕ). AreVisitsOfWay (g.S.NodeStore.nodes c.args.store.now) c.args.root k (g.S.NodeStore.visit_count c.args.store.now) final) c.in_ok-asked.ensures rest;
+  part = λ known sound final rest. subst (λ (k : List ℕ). AreVisitsOfPart (g.S.NodeStore.nodes c.args.store.now) c.args.root k (g.S.NodeStore.visit_count c.args.store.now) final) c.in_ok-asked.ensures rest;
 }
 
 pub loop-patches-preserved : goal.loop-patches-preserved
@@ -65,6 +66,11 @@ loop-patches-preserved g c =
           asking_same (g.S.NodeStore.nodes c.loop-patches.store) nodes c.loop-patches.id c.as_slice.result.now c.loop-patches.asked c.in_ok-part.part.base (Ask c.in-Ask.child c.in-Ask.key)
           (inv.nodes known) c.as_slice.ensures c.in-Ask.is (c.in_ok-part.ensures.asks (inv.known known)) in
           inv.way known sound final (way_goes_on nodes (g.S.NodeStore.table c.args.store.now) c.loop-patches.id c.in-Ask.child c.loop-patches.asked c.in-Ask.key (g.S.NodeStore.visit_count c.loop-patches.store) (g.S.NodeStore.visit_count c.fetched.new.store) final sound inv.here asking c.in_ok-part.ensures.visits rest);
+      part = λ known sound final rest.
+          let asking : IsAsking nodes c.loop-patches.id c.loop-patches.asked (Ask c.in-Ask.child c.in-Ask.key) =
+          asking_same (g.S.NodeStore.nodes c.loop-patches.store) nodes c.loop-patches.id c.as_slice.result.now c.loop-patches.asked c.in_ok-part.part.base (Ask c.in-Ask.child c.in-Ask.key)
+          (inv.nodes known) c.as_slice.ensures c.in-Ask.is (c.in_ok-part.ensures.asks (inv.known known)) in
+          inv.part known sound final (part_goes_on nodes (g.S.NodeStore.table c.args.store.now) c.loop-patches.id c.in-Ask.child c.loop-patches.asked c.in-Ask.key (g.S.NodeStore.visit_count c.loop-patches.store) (g.S.NodeStore.visit_count c.fetched.new.store) final sound inv.here asking c.in_ok-part.ensures.visits rest);
     }
 
 pub returns-in_err-part-clause-few_visits : goal.returns-in_err-part-clause-few_visits
@@ -91,3 +97,21 @@ returns-in-Value-clause-way g c = λ known sound.
     (inv.nodes known) c.as_slice.ensures c.in-Value.is (c.in_ok-part.ensures.asks (inv.known known)) in
     inv.way known sound (g.S.NodeStore.visit_count c.fetched.new.store)
     (way_ends nodes (g.S.NodeStore.table c.args.store.now) c.loop-patches.id c.loop-patches.asked (g.S.NodeStore.visit_count c.loop-patches.store) (g.S.NodeStore.visit_count c.fetched.new.store) sound inv.here asking c.in_ok-part.ensures.visits)
+
+pub returns-in_err-asked-clause-err_way : goal.returns-in_err-asked-clause-err_way
+returns-in_err-asked-clause-err_way g c = λ known sound. on_err c.from_residual.result (inl refl)
+
+pub returns-in_err-part-clause-err_way : goal.returns-in_err-part-clause-err_way
+returns-in_err-part-clause-err_way g c = λ known sound.
+    on_err c.from_residual-in_err-part.result (c.loop-patches.invariant.part known sound (g.S.NodeStore.visit_count c.fetched.new.store)
+    (part_here (g.S.NodeStore.nodes c.args.store.now) c.loop-patches.id c.loop-patches.asked (g.S.NodeStore.visit_count c.loop-patches.store) (g.S.NodeStore.visit_count c.fetched.new.store) c.fetched.ensures.visits))
+
+pub returns-in_err-append-clause-err_way : goal.returns-in_err-append-clause-err_way
+returns-in_err-append-clause-err_way g c = λ known sound.
+    on_err c.from_residual-in_err-append.result (c.loop-patches.invariant.part known sound (g.S.NodeStore.visit_count c.fetched.new.store)
+    (part_here (g.S.NodeStore.nodes c.args.store.now) c.loop-patches.id c.loop-patches.asked (g.S.NodeStore.visit_count c.loop-patches.store) (g.S.NodeStore.visit_count c.fetched.new.store) c.fetched.ensures.visits))
+
+pub returns-in_err-finished-in-Value-clause-err_way : goal.returns-in_err-finished-in-Value-clause-err_way
+returns-in_err-finished-in-Value-clause-err_way g c = λ known sound.
+    on_err c.from_residual-in_err-finished-in-Value.result (c.loop-patches.invariant.part known sound (g.S.NodeStore.visit_count c.fetched.new.store)
+    (part_here (g.S.NodeStore.nodes c.args.store.now) c.loop-patches.id c.loop-patches.asked (g.S.NodeStore.visit_count c.loop-patches.store) (g.S.NodeStore.visit_count c.fetched.new.store) c.fetched.ensures.visits))

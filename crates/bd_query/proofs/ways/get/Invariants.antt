@@ -2,7 +2,7 @@ use Rattle.std.proofs.Common.{◌≡◌, ℕ}
 use Rattle.bd_node.specs.Meaning.{at}
 use Rattle.bd_node.specs.Tables.{IsKept, IsSound}
 use Rattle.bd_query.specs.Looks.{patched}
-use Rattle.bd_query.specs.Asks.{AreVisitsOfWay}
+use Rattle.bd_query.specs.Asks.{AreVisitsOfWay, AreVisitsOfPart}
 use Rattle.bd_node.proofs.Visited.{VisitsTo}
 use Rattle.bd_query.proofs.ways.get.Given as goal
 
@@ -20,6 +20,8 @@ invariant-loop-patches g l = record {
       → patched l.patches.items (at (g.S.NodeStore.nodes l.fn.store) l.id l.asked) ≡ at (g.S.NodeStore.nodes l.fn.store) l.fn.root l.fn.key;
   way : g.S.NodeStore.is_known l.fn.store → IsSound (g.S.NodeStore.nodes l.fn.store) (g.S.NodeStore.table l.fn.store) → (final : ℕ)
       → AreVisitsOfWay (g.S.NodeStore.nodes l.fn.store) l.id l.asked (g.S.NodeStore.visit_count l.store) final → AreVisitsOfWay (g.S.NodeStore.nodes l.fn.store) l.fn.root l.fn.key (g.S.NodeStore.visit_count l.fn.store) final;
+  part : g.S.NodeStore.is_known l.fn.store → IsSound (g.S.NodeStore.nodes l.fn.store) (g.S.NodeStore.table l.fn.store) → (final : ℕ)
+      → AreVisitsOfPart (g.S.NodeStore.nodes l.fn.store) l.id l.asked (g.S.NodeStore.visit_count l.store) final → AreVisitsOfPart (g.S.NodeStore.nodes l.fn.store) l.fn.root l.fn.key (g.S.NodeStore.visit_count l.fn.store) final;
 }
 
 abbrev pub decreases-loop-patches : goal.decreases-loop-patches

@@ -18,7 +18,7 @@ returns-clause-root g c =
 
 pub returns-clause-cause : goal.returns-clause-cause
 returns-clause-cause g c =
-    decide_worn (g.S.NodeStore.fault_count c.args.store.now) (g.S.NodeStore.fault_count c.commit.new.self) (g.S.NodeStore.bad c.commit.new.self) (g.S.NodeStore.table c.args.store.now) c.args.node.now c.args.place c.args.at c.in_ok-step.step c.commit.result
+    decide_worn (g.S.NodeStore.fault_count c.args.store.now) (g.S.NodeStore.fault_count c.commit.new.self) (g.S.NodeStore.last_failed c.commit.new.self) (g.S.NodeStore.bad c.commit.new.self) (g.S.NodeStore.table c.args.store.now) c.args.node.now c.args.place c.args.at c.in_ok-step.step c.commit.result
     (is_to_decide (g.S.NodeStore.table c.args.store.now) c.args.node.now c.args.place c.args.at c.in_ok-step.step c.root-root.result c.root-root.ensures.table c.requires.fetched c.requires.covered c.root-root.ensures.value c.in_ok-step.ensures) c.commit.ensures.cause
 
 pub returns-clause-reclaimed : goal.returns-clause-reclaimed

@@ -38,7 +38,7 @@ returns-clause-found g c =
 
 pub returns-clause-cause : goal.returns-clause-cause
 returns-clause-cause g c =
-    push_cause (g.S.NodeStore.fault_count c.args.store.now) (g.S.NodeStore.fault_count c.push_step.new.store) (g.S.NodeStore.fault_count c.make.new.store) (g.S.NodeStore.bad c.make.new.store) (AreKnown g.S.NodeStore c.args.store.now) (AreKnown g.S.NodeStore c.push_step.new.store) (g.S.NodeStore.nodes c.args.store.now) (g.S.NodeStore.nodes c.push_step.new.store) (g.S.NodeStore.table c.args.store.now) (g.S.NodeStore.table c.push_step.new.store) c.args.above c.args.node c.args.place c.in_ok-step.step c.make.result
+    push_cause (g.S.NodeStore.fault_count c.args.store.now) (g.S.NodeStore.fault_count c.push_step.new.store) (g.S.NodeStore.fault_count c.make.new.store) (g.S.NodeStore.last_failed c.make.new.store) (g.S.NodeStore.bad c.make.new.store) (AreKnown g.S.NodeStore c.args.store.now) (AreKnown g.S.NodeStore c.push_step.new.store) (g.S.NodeStore.nodes c.args.store.now) (g.S.NodeStore.nodes c.push_step.new.store) (g.S.NodeStore.table c.args.store.now) (g.S.NodeStore.table c.push_step.new.store) c.args.above c.args.node c.args.place c.in_ok-step.step c.make.result
     c.in_ok-step.ensures.cause.kept c.push_step.ensures.left.table
     (λ k. still_known (g.S.NodeStore.is_known c.push_step.new.store) (g.S.NodeStore.nodes c.args.store.now) (g.S.NodeStore.nodes c.push_step.new.store) (g.S.NodeStore.table c.args.store.now) (g.S.NodeStore.table c.push_step.new.store) (c.push_step.ensures.left.known k.0) (c.push_step.ensures.left.kept k.0) c.push_step.ensures.left.table k.1)
-    c.in_ok-step.ensures.begins c.in_ok-step.ensures.due (λ k. c.in_ok-step.ensures.stands k.0 (c.requires.own k.0 k.1) (c.requires.all_own k.0 k.1)) (λ k. c.in_ok-step.ensures.reached k.0 (c.requires.own k.0 k.1)) c.make.ensures.cause
+    c.in_ok-step.ensures.begins c.in_ok-step.ensures.due c.in_ok-step.ensures.way (λ k. c.in_ok-step.ensures.stands k.0 (c.requires.own k.0 k.1) (c.requires.all_own k.0 k.1)) (λ k. c.in_ok-step.ensures.reached k.0 (c.requires.own k.0 k.1)) c.make.ensures.cause

@@ -38,7 +38,7 @@ pub returns-in_err-make-clause-cause : goal.returns-in_err-make-clause-cause
 returns-in_err-make-clause-cause g c =
     let p = err_from_is_err_and c.from_residual-in_err-make.result c.from_residual-in_err-make.ensures.1 in
     rw (p.1, p.2)
-    (flush_cause (g.S.NodeStore.fault_count c.args.store.now) (g.S.NodeStore.fault_count c.next_step.new.store) (g.S.NodeStore.fault_count c.make.new.store) (g.S.NodeStore.bad c.make.new.store) (AreKnown g.S.NodeStore c.args.store.now) (AreKnown g.S.NodeStore c.next_step.new.store) (g.S.NodeStore.nodes c.args.store.now) (g.S.NodeStore.nodes c.next_step.new.store) (g.S.NodeStore.table c.args.store.now) (g.S.NodeStore.table c.next_step.new.store) c.in_ok-step.step c.in_err-make.field-0.0
+    (flush_cause (g.S.NodeStore.fault_count c.args.store.now) (g.S.NodeStore.fault_count c.next_step.new.store) (g.S.NodeStore.fault_count c.make.new.store) (g.S.NodeStore.last_failed c.make.new.store) (g.S.NodeStore.bad c.make.new.store) (AreKnown g.S.NodeStore c.args.store.now) (AreKnown g.S.NodeStore c.next_step.new.store) (g.S.NodeStore.nodes c.args.store.now) (g.S.NodeStore.nodes c.next_step.new.store) (g.S.NodeStore.table c.args.store.now) (g.S.NodeStore.table c.next_step.new.store) c.in_ok-step.step c.in_err-make.field-0.0
     c.in_ok-step.ensures.cause.kept c.next_step.ensures.left.table
     (λ k. still_known (g.S.NodeStore.is_known c.next_step.new.store) (g.S.NodeStore.nodes c.args.store.now) (g.S.NodeStore.nodes c.next_step.new.store) (g.S.NodeStore.table c.args.store.now) (g.S.NodeStore.table c.next_step.new.store) (c.next_step.ensures.left.known k.0) (c.next_step.ensures.left.kept k.0) c.next_step.ensures.left.table k.1)
-    c.in_ok-step.ensures.to_do (λ k. c.in_ok-step.ensures.at k.0 k.1) c.in_err-make.ensures.cause)
+    c.in_ok-step.ensures.to_do c.in_ok-step.ensures.way (λ k. c.in_ok-step.ensures.at k.0 k.1) c.in_err-make.ensures.cause)

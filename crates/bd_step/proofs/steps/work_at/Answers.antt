@@ -22,8 +22,8 @@ returns-in-Split-clause-made g c = λ known sound.
 
 pub returns-in-Split-clause-cause : goal.returns-in-Split-clause-cause
 returns-in-Split-clause-cause g c =
-    subst (λ (w : Work). HasMapCause (g.S.NodeStore.fault_count c.args.store.now) (g.S.NodeStore.fault_count c.split_child.new.store) (g.S.NodeStore.bad c.split_child.new.store) (IsWornStep (AreKnown g.S.NodeStore c.args.store.now) (g.S.NodeStore.nodes c.args.store.now) (g.S.NodeStore.table c.args.store.now) (At c.args.site w)) c.split_child.result) (sym c.in-Split.is)
-    (subst (λ (l : List Fetched). HasMapCause (g.S.NodeStore.fault_count c.args.store.now) (g.S.NodeStore.fault_count c.split_child.new.store) (g.S.NodeStore.bad c.split_child.new.store) (IsWornFor (IsSplitStep (g.S.NodeStore.table c.args.store.now) (reverse l) c.args.site.parent c.args.site.place c.in-Split.child) (IsHighSplit (reverse l) c.args.site.parent c.args.site.place c.in-Split.child) (g.S.NodeStore.table c.args.store.now)) c.split_child.result) c.as_slice.ensures c.split_child.ensures.cause)
+    subst (λ (w : Work). HasMapCause (g.S.NodeStore.fault_count c.args.store.now) (g.S.NodeStore.fault_count c.split_child.new.store) (g.S.NodeStore.last_failed c.split_child.new.store) (g.S.NodeStore.bad c.split_child.new.store) (IsWornStep (AreKnown g.S.NodeStore c.args.store.now) (g.S.NodeStore.nodes c.args.store.now) (g.S.NodeStore.table c.args.store.now) (At c.args.site w)) c.split_child.result) (sym c.in-Split.is)
+    (subst (λ (l : List Fetched). HasMapCause (g.S.NodeStore.fault_count c.args.store.now) (g.S.NodeStore.fault_count c.split_child.new.store) (g.S.NodeStore.last_failed c.split_child.new.store) (g.S.NodeStore.bad c.split_child.new.store) (IsWornFor (IsSplitStep (g.S.NodeStore.table c.args.store.now) (reverse l) c.args.site.parent c.args.site.place c.in-Split.child) (IsHighSplit (reverse l) c.args.site.parent c.args.site.place c.in-Split.child) (g.S.NodeStore.table c.args.store.now)) c.split_child.result) c.as_slice.ensures c.split_child.ensures.cause)
 
 pub push_new-requires-clause-can : goal.push_new-requires-clause-can
 push_new-requires-clause-can g c =
@@ -52,8 +52,8 @@ returns-in-Push-Some-clause-made g c = λ known sound.
 
 pub returns-in-Push-Some-clause-cause : goal.returns-in-Push-Some-clause-cause
 returns-in-Push-Some-clause-cause g c =
-    subst (λ (w : Work). HasMapCause (g.S.NodeStore.fault_count c.args.store.now) (g.S.NodeStore.fault_count c.push.new.store) (g.S.NodeStore.bad c.push.new.store) (IsWornStep (AreKnown g.S.NodeStore c.args.store.now) (g.S.NodeStore.nodes c.args.store.now) (g.S.NodeStore.table c.args.store.now) (At c.args.site w)) c.push.result) (sym (c.in-Push-Some.is ∙ ap (λ (o : Option Fetched). Push o) c.in-Push-Some.child-is))
-    (subst (λ (l : List Fetched). HasMapCause (g.S.NodeStore.fault_count c.args.store.now) (g.S.NodeStore.fault_count c.push.new.store) (g.S.NodeStore.bad c.push.new.store) (IsWornFor (IsSomePush (g.S.NodeStore.table c.args.store.now).root (g.S.NodeStore.table c.args.store.now).next (reverse l) c.args.site.parent c.args.site.place c.in-Push-Some.child) (IsHighPush c.args.site.parent.node.value c.args.site.place c.in-Push-Some.child.node.value (reverse l)) (g.S.NodeStore.table c.args.store.now)) c.push.result) c.as_slice-in-Push-Some.ensures c.push.ensures.cause)
+    subst (λ (w : Work). HasMapCause (g.S.NodeStore.fault_count c.args.store.now) (g.S.NodeStore.fault_count c.push.new.store) (g.S.NodeStore.last_failed c.push.new.store) (g.S.NodeStore.bad c.push.new.store) (IsWornStep (AreKnown g.S.NodeStore c.args.store.now) (g.S.NodeStore.nodes c.args.store.now) (g.S.NodeStore.table c.args.store.now) (At c.args.site w)) c.push.result) (sym (c.in-Push-Some.is ∙ ap (λ (o : Option Fetched). Push o) c.in-Push-Some.child-is))
+    (subst (λ (l : List Fetched). HasMapCause (g.S.NodeStore.fault_count c.args.store.now) (g.S.NodeStore.fault_count c.push.new.store) (g.S.NodeStore.last_failed c.push.new.store) (g.S.NodeStore.bad c.push.new.store) (IsWornFor (IsSomePush (g.S.NodeStore.table c.args.store.now).root (g.S.NodeStore.table c.args.store.now).next (reverse l) c.args.site.parent c.args.site.place c.in-Push-Some.child) (IsHighPush c.args.site.parent.node.value c.args.site.place c.in-Push-Some.child.node.value (reverse l)) (g.S.NodeStore.table c.args.store.now)) c.push.result) c.as_slice-in-Push-Some.ensures c.push.ensures.cause)
 
 pub privatise-requires-clause-can : goal.privatise-requires-clause-can
 privatise-requires-clause-can g c =

@@ -1,4 +1,4 @@
-use Rattle.std.proofs.Common.{◌≡◌, ℕ, ◌+◌, ◌≤◌, refl, sym, ap, subst, ◌∙◌, arith, inl, inr, List, length, Some, Err}
+use Rattle.std.proofs.Common.{◌≡◌, ℕ, false, ◌+◌, ◌≤◌, refl, sym, ap, subst, ◌∙◌, arith, inl, inr, List, length, Some, Err}
 use Rattle.std.proofs.lemmas.Result.{err_from_is_err_and}
 use Rattle.std.proofs.lemmas.List.{length-map}
 use Rattle.bd_message.specs.declared.message.Message.{Message}
@@ -90,5 +90,5 @@ returns-clause-whole c = record {
 pub returns-in_err-addition-clause-cause : goal.returns-in_err-addition-clause-cause
 returns-in_err-addition-clause-cause c =
     let p = err_from_is_err_and c.from_residual.result c.from_residual.ensures.1 in
-    let cause = subst (λ (l : List Message). HasMapCause {T = Addition} 0 0 (λ b. ⊥) (IsWornByAdding (table_in c.args.self.now) c.args.made l) (Err c.in_err-addition.field-0.0)) c.as_slice.ensures c.in_err-addition.ensures.cause in
+    let cause = subst (λ (l : List Message). HasMapCause {T = Addition} 0 0 false (λ b. ⊥) (IsWornByAdding (table_in c.args.self.now) c.args.made l) (Err c.in_err-addition.field-0.0)) c.as_slice.ensures c.in_err-addition.ensures.cause in
     rw (p.1, p.2) (record { later = cause.later; kept = tt; stays = cause.stays; failed = cause.failed })

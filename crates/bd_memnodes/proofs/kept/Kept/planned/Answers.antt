@@ -1,4 +1,4 @@
-use Rattle.std.proofs.Common.{ℕ, ◌∙◌, List, Err}
+use Rattle.std.proofs.Common.{ℕ, false, ◌∙◌, List, Err}
 use Rattle.bd_message.proofs.Causes.{cause_weaker, cause_passed}
 use Rattle.bd_node.specs.Steps.{IsWornBy}
 use Rattle.bd_counts.specs.Counting.{IsWornByNames}
@@ -10,6 +10,6 @@ use Rattle.bd_memnodes.proofs.kept.Kept.planned.Goals as goal
 pub returns-in-Err-clause-cause : goal.returns-in-Err-clause-cause
 returns-in-Err-clause-cause c =
     let xs : List ℕ = c.as_slice.result.now in
-    cause_passed {T = Unit {0}} 0 0 (λ _. ⊥) (IsWornBy (table_in c.args.self.now) c.args.step) c.in-Err.fault
-    (cause_weaker {T = Unit {0}} 0 0 (λ _. ⊥) (IsWornByNames (count_in c.args.self.now.counts) xs) (IsWornBy (table_in c.args.self.now) c.args.step)
+    cause_passed {T = Unit {0}} 0 0 false (λ _. ⊥) (IsWornBy (table_in c.args.self.now) c.args.step) c.in-Err.fault
+    (cause_weaker {T = Unit {0}} 0 0 false (λ _. ⊥) (IsWornByNames (count_in c.args.self.now.counts) xs) (IsWornBy (table_in c.args.self.now) c.args.step)
     (worn_by_step (table_in c.args.self.now) c.args.step xs (c.as_slice.ensures.value ∙ c.in_ok-plan.ensures.names)) (Err c.in-Err.fault) c.in-Err.ensures.cause)

@@ -1,4 +1,4 @@
-use Rattle.std.proofs.Common.{Err}
+use Rattle.std.proofs.Common.{false, Err}
 use Rattle.bd_message.specs.KeyMaps.{HasMapCause}
 use Rattle.bd_node.specs.Tables.{IsSound}
 use Rattle.bd_node.specs.Steps.{IsStep, StayAbove, IsWornBy}
@@ -16,5 +16,5 @@ commit-requires-clause-above c =
 
 pub returns-in-Err-clause-cause : goal.returns-in-Err-clause-cause
 returns-in-Err-clause-cause c =
-    of_kept (λ n t. HasMapCause {T = Unit {0}} 0 0 (λ _. ⊥) (IsWornBy t c.args.step) (Err c.in-Err.fault)) c.self.inside.kept c.self.inside.visits c.args.self.now c.self.view_is
+    of_kept (λ n t. HasMapCause {T = Unit {0}} 0 0 false (λ _. ⊥) (IsWornBy t c.args.step) (Err c.in-Err.fault)) c.self.inside.kept c.self.inside.visits c.args.self.now c.self.view_is
     c.in-Err.ensures.cause
