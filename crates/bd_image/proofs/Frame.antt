@@ -1,6 +1,6 @@
 -- What an image stands for where its used blocks stay.
-use Rattle.std.proofs.Common.{◌≡◌, ℕ, zero, suc, ◌+◌, ◌-◌, ◌/◌, ◌<◌, ◌≤◌, inl, inr, Bool, true, false, cond, List, [], ◌∷◌, ◌++◌, length, take, drop, min, get_or, Option, None, Some, refl, sym, ap, subst, ◌∙◌, arith, length-append}
-use Rattle.std.specs.Prelude.{slice_index, ◌==◌}
+use Rattle.std.proofs.Common.{◌≡◌, ℕ, zero, suc, ◌+◌, ◌-◌, ◌/◌, ◌<◌, ◌≤◌, inl, inr, List, [], ◌∷◌, ◌++◌, length, take, drop, min, get_or, Option, None, Some, refl, sym, ap, subst, ◌∙◌, arith, length-append}
+use Rattle.std.specs.Prelude.{slice_index}
 use Rattle.std.specs.List.{concat}
 use Rattle.std.proofs.lemmas.List.{length-drop, length-take, ext_get_or, get_or-take, get_or-drop, get_or_default, get_or_append_left, get_or-append_right, get_or-map, length-map}
 use Rattle.bd_model.specs.Tree.{Tree}
@@ -16,13 +16,15 @@ use Rattle.bd_table.specs.Image.{table_block, block_total, first_bytes, HoldsTab
 use Rattle.bd_table.specs.declared.table.Table.{Table as StoredTable}
 use Rattle.bd_table.specs.declared.table.TableEntry.{TableEntry}
 use Rattle.bd_table.proofs.BlockLemmas.{first_bytes_more}
+use Rattle.bd_table.proofs.EntryLemmas.{entry_stands}
 use Rattle.bd_super.specs.Superblocks.{log_block}
 use Rattle.bd_super.specs.Live.{IsLive}
 use Rattle.bd_super.specs.declared.superblock.Super.{Super}
 use Rattle.bd_log.specs.Batches.{IsBatchAt, AreChained, AreBatches, body_blocks}
 use Rattle.bd_log.specs.declared.batch.Batch.{Batch}
 use Rattle.bd_tails.specs.Tails.{slot_bytes, IsOfSlot}
-use Rattle.bd_image.specs.Stored.{entry_of, IsNodeAt, HoldsNodes}
+use Rattle.bd_table.specs.Entries.{entry_of}
+use Rattle.bd_image.specs.Stored.{IsNodeAt, HoldsNodes}
 use Rattle.bd_image.specs.ImageTree.{HasTree}
 use Rattle.bd_image.specs.Used.{used_slots, IsOfSlots, SameBlocks, SameSlots, SameUsed}
 
@@ -41,18 +43,6 @@ row_same old new b n size same =
 
 pub bytes_same : (old new : Image) (b n : ℕ) → length new ≡ length old → ((i : ℕ) → b ≤ i → i < b + n → block_at new i ≡ block_at old i) → bytes_at new b n ≡ bytes_at old b n
 bytes_same old new b n size same = ap concat (row_same old new b n size same)
-
--- ---- entries
-
--- the entry that is found stands in the table
-pub entry_stands : (entries : List TableEntry) (id : ℕ) (e : TableEntry) → entry_of entries id ≡ Some e → (k : ℕ) × (k < length entries) × (get_or entries k e ≡ e)
-entry_stands [] id e h = absurd (let no : None ≡ Some e = h in cc)
-entry_stands (x ∷ entries) id e h = by (x.id == id) (entry_stands entries id e) h
-  where
-    by : (b : Bool) → (entry_of entries id ≡ Some e → (k : ℕ) × (k < length entries) × (get_or entries k e ≡ e)) → cond b (Some x) (entry_of entries id) ≡ Some e
-        → (k : ℕ) × (k < length (x ∷ entries)) × (get_or (x ∷ entries) k e ≡ e)
-    by true later h = let same : x ≡ e = cc in (zero, omega arith, same)
-    by false later h = let rest = later h in (suc rest.0, omega (arith, rest.1), rest.2)
 
 -- ---- which slots are used
 

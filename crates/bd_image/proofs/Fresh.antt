@@ -27,7 +27,8 @@ use Rattle.bd_table.specs.declared.table.TableEntry.{TableEntry}
 use Rattle.bd_super.specs.Superblocks.{log_block}
 use Rattle.bd_super.specs.declared.superblock.Super.{Super}
 use Rattle.bd_image.specs.Versions.{HasNoModes}
-use Rattle.bd_image.specs.Stored.{entry_of, refs_in, IsNodeAt, HoldsNodes, table_of}
+use Rattle.bd_table.specs.Entries.{entry_of}
+use Rattle.bd_image.specs.Stored.{refs_in, IsNodeAt, HoldsNodes, table_of}
 use Rattle.bd_image.specs.ImageTree.{ImageStandsFor}
 use Rattle.bd_image.specs.Fresh.{fresh_root, fresh_nodes, fresh_table, IsFresh}
 

@@ -24,7 +24,8 @@ use Rattle.bd_log.specs.Batches.{AreBatches}
 use Rattle.bd_log.specs.declared.batch.Batch.{Batch}
 use Rattle.bd_tails.specs.Tails.{slot_bytes}
 use Rattle.bd_image.specs.Versions.{version_of}
-use Rattle.bd_image.specs.Stored.{entry_of, IsNodeAt, HoldsNodes, table_of}
+use Rattle.bd_table.specs.Entries.{entry_of}
+use Rattle.bd_image.specs.Stored.{IsNodeAt, HoldsNodes, table_of}
 use Rattle.bd_image.specs.ImageTree.{LeadsOn, records_of, HaveTree, HasTree, ImageStandsFor}
 
 -- what the parts of an image are told by is one value each

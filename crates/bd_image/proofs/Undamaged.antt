@@ -1,6 +1,7 @@
 -- An image that stands for a tree has no bad block.
 use Rattle.std.proofs.Common.{◌≡◌, ℕ, ◌<◌, ◌≤◌, ◌^◌, List, [], ◌∷◌, ◌++◌, Option, None, Some, sym, ap, subst, ◌∙◌, arith}
 use Rattle.std.specs.List.{AllByRecursion}
+use Rattle.std.specs.Option.{option_map}
 use Rattle.bd_command.specs.Log.{log_record}
 use Rattle.bd_command.specs.declared.Command.{Command}
 use Rattle.bd_model.specs.Tree.{Tree}
@@ -12,6 +13,7 @@ use Rattle.bd_node.specs.Meaning.{Nodes}
 use Rattle.bd_node.specs.Tables.{IsLower, IsStored, IsSound}
 use Rattle.bd_table.specs.Image.{HoldsTable}
 use Rattle.bd_table.specs.Tables.{IsTableEntry}
+use Rattle.bd_table.proofs.EntryLemmas.{entry_stands}
 use Rattle.bd_table.specs.declared.table.Table.{Table as StoredTable}
 use Rattle.bd_table.specs.declared.table.TableEntry.{TableEntry}
 use Rattle.bd_super.specs.Superblocks.{log_block}
@@ -19,13 +21,13 @@ use Rattle.bd_super.specs.Live.{IsLive, IsDamaged}
 use Rattle.bd_super.specs.declared.superblock.Super.{Super}
 use Rattle.bd_log.specs.Batches.{AreBatches, IsDamagedAt}
 use Rattle.bd_log.specs.declared.batch.Batch.{Batch}
-use Rattle.bd_format.specs.Slots.{HasNode}
+use Rattle.bd_format.specs.Slots.{HasNode, IsLowerLevel, IsGoodNode}
 use Rattle.bd_image.specs.Versions.{version_of, IsLoggedIn}
-use Rattle.bd_image.specs.Stored.{entry_of, refs_in, level_in, IsNodeAt, HoldsNodes, table_of}
+use Rattle.bd_table.specs.Entries.{entry_of, level_at}
+use Rattle.bd_image.specs.Stored.{refs_in, level_in, IsNodeAt, HoldsNodes, table_of}
 use Rattle.bd_image.specs.ImageTree.{LeadsOn, records_of, HasTree, ImageStandsFor}
-use Rattle.bd_image.specs.Damage.{IsLowerEntry, IsGoodNode, PlacedRecord, unplaced, HasRecord, IsTreeAfter, IsNoCommand, IsBadAt}
+use Rattle.bd_image.specs.Damage.{PlacedRecord, unplaced, HasRecord, IsTreeAfter, IsNoCommand, IsBadAt}
 use Rattle.bd_image.specs.Damage.IsBadAt.{bad_super, bad_table, bad_node, unsound_nodes, bad_batch, bad_record, refused_record}
-use Rattle.bd_image.proofs.Frame.{entry_stands}
 use Rattle.bd_image.proofs.Leading.{leads_apart, records_split}
 use Rattle.bd_image.proofs.Ones.{AreOne, one_table, one_command}
 
@@ -40,17 +42,17 @@ at_table one image s t u place tree n h table = subst (λ (x : StoredTable). Has
 
 -- ---- nodes
 
-lower_entry : (level : ℕ) (o : Option TableEntry) → 1 ≤ refs_in o → level_in o < level → IsLowerEntry level o
+lower_entry : (level : ℕ) (o : Option TableEntry) → 1 ≤ refs_in o → level_in o < level → IsLowerLevel level (option_map (λ e. e.level) o)
 lower_entry level None kept lower = absurd (omega (arith, kept))
 lower_entry level (Some e) kept lower = lower
 
-lower_entries : (t : StoredTable) (nodes : Nodes) (level : ℕ) (ids : List ℕ) → AllByRecursion (IsLower (table_of t nodes) level) ids → AllByRecursion (λ c. IsLowerEntry level (entry_of t.entries c)) ids
+lower_entries : (t : StoredTable) (nodes : Nodes) (level : ℕ) (ids : List ℕ) → AllByRecursion (IsLower (table_of t nodes) level) ids → AllByRecursion (λ c. IsLowerLevel level (level_at t.entries c)) ids
 lower_entries t nodes level [] h = tt
 lower_entries t nodes level (c ∷ ids) h = (lower_entry level (entry_of t.entries c) h.0.kept h.0.lower, lower_entries t nodes level ids h.1)
 
 -- each entry has a good node
 good_node : (image : Image) (s : Super) (t : StoredTable) (nodes : Nodes) (e : TableEntry) → HoldsTable image s.slots s.table t → HoldsNodes image t nodes → IsSound nodes (table_of t nodes)
-    → entry_of t.entries e.id ≡ Some e → (n : Node) × IsGoodNode image t e n
+    → entry_of t.entries e.id ≡ Some e → (n : Node) × IsGoodNode image (level_at t.entries) e.slot e.level n
 good_node image s t nodes e table stored sound found =
     let at = entry_stands t.entries e.id e found in
     let entry : IsTableEntry e = subst IsTableEntry at.2 (table.0.entries.each at.0 e at.1) in
@@ -58,8 +60,8 @@ good_node image s t nodes e table stored sound found =
     let node : IsStored nodes (table_of t nodes) e.id = sound.each e.id kept in
     let there : IsNodeAt image (entry_of t.entries e.id) (Some node.node) = subst (λ (n : Option Node). IsNodeAt image (entry_of t.entries e.id) n) node.there (stored.each e.id) in
     let held : HasNode image e.slot e.level node.node = subst (λ (o : Option TableEntry). IsNodeAt image o (Some node.node)) found there in
-    let lower : AllByRecursion (λ c. IsLowerEntry e.level (entry_of t.entries c)) (names node.node) =
-    subst (λ (l : ℕ). AllByRecursion (λ c. IsLowerEntry l (entry_of t.entries c)) (names node.node)) (ap level_in found)
+    let lower : AllByRecursion (λ c. IsLowerLevel e.level (level_at t.entries c)) (names node.node) =
+    subst (λ (l : ℕ). AllByRecursion (λ c. IsLowerLevel l (level_at t.entries c)) (names node.node)) (ap level_in found)
     (lower_entries t nodes (level_in (entry_of t.entries e.id)) (names node.node) node.of_table.lower) in
     (node.node, record { held = held; lower = lower })
 
@@ -102,7 +104,7 @@ not_bad one no_super no_batch image s t place tree n _ h (bad_node o u e has non
     let here : HasTree o u place tree n image = at_table one image o t u place tree n (at_super one image s o t place tree n h has.live) has.table in
     let good = good_node image o u here.nodes e has.table here.starts.stored here.have.sound has.entry in
     none good.0 good.1
-not_bad one no_super no_batch image s t place tree n _ h (unsound_nodes o u live table none) =
+not_bad one no_super no_batch image s t place tree n _ h (unsound_nodes o u live table good none) =
     let here : HasTree o u place tree n image = at_table one image o t u place tree n (at_super one image s o t place tree n h live) table in
     none here.nodes here.starts.stored here.have.sound
 not_bad one no_super no_batch image s t place tree n _ h (bad_batch o b live damaged) =

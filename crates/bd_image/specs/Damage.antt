@@ -1,6 +1,6 @@
 -- Which block is why an image stands for no tree.
-use Rattle.std.specs.Prelude.{◌≡◌, ◌≢◌, ◌<◌, ℕ, List, ◌∷◌, ◌++◌, map, slice_index, Option, None, Some}
-use Rattle.std.specs.List.{flat_map, AllByRecursion}
+use Rattle.std.specs.Prelude.{◌≡◌, ◌≢◌, ℕ, List, ◌∷◌, ◌++◌, map, slice_index, Some}
+use Rattle.std.specs.List.{flat_map}
 use Rattle.bd_command.specs.Log.{log_record}
 use Rattle.bd_command.specs.declared.Command.{Command}
 use Rattle.bd_model.specs.Tree.{Tree}
@@ -8,9 +8,9 @@ use Rattle.bd_model.specs.Laws.{Accepts}
 use Rattle.bd_slots.specs.Layout.{slot_block}
 use Rattle.bd_device.specs.Blocks.{Image}
 use Rattle.bd_node.specs.declared.node.Node.{Node}
-use Rattle.bd_node.specs.Nodes.{names}
 use Rattle.bd_node.specs.Meaning.{Nodes}
 use Rattle.bd_node.specs.Tables.{IsSound}
+use Rattle.bd_table.specs.Entries.{entry_of, level_at}
 use Rattle.bd_table.specs.Image.{HoldsTable, HasNoTable}
 use Rattle.bd_table.specs.declared.table.Table.{Table as StoredTable}
 use Rattle.bd_table.specs.declared.table.TableEntry.{TableEntry}
@@ -19,9 +19,9 @@ use Rattle.bd_super.specs.Live.{IsLive, IsDamaged}
 use Rattle.bd_super.specs.declared.superblock.Super.{Super}
 use Rattle.bd_log.specs.Batches.{AreBatches, IsDamagedAt}
 use Rattle.bd_log.specs.declared.batch.Batch.{Batch}
-use Rattle.bd_format.specs.Slots.{HasNode}
+use Rattle.bd_format.specs.Slots.{IsGoodNode, HasNoGoodNode}
 use Rattle.bd_image.specs.Versions.{version_of, IsLoggedIn}
-use Rattle.bd_image.specs.Stored.{entry_of, HoldsNodes, table_of}
+use Rattle.bd_image.specs.Stored.{HoldsNodes, table_of}
 use Rattle.bd_image.specs.ImageTree.{LeadsOn, HaveTree, StartsFrom}
 
 -- ---- nodes
@@ -30,22 +30,16 @@ use Rattle.bd_image.specs.ImageTree.{LeadsOn, HaveTree, StartsFrom}
 abbrev pub table_start : Super → ℕ
 table_start s = slot_block (slice_index s.table 0)
 
--- the entry is there, of a lower level
-abbrev pub IsLowerEntry : ℕ → Option TableEntry → Type 0
-IsLowerEntry level None = ⊥
-IsLowerEntry level (Some e) = e.level < level
-
--- an entry's slot has this node of its level, which names nodes of the table of lower levels
-pub record IsGoodNode (image : Image) (t : StoredTable) (e : TableEntry) (n : Node)
-    : Type 0 where
-  pub held : HasNode image e.slot e.level n
-  pub lower : AllByRecursion (λ c. IsLowerEntry e.level (entry_of t.entries c)) (names n)
-
 -- a superblock's table has this entry of a node
 pub record HasEntry (image : Image) (s : Super) (t : StoredTable) (e : TableEntry) : Type 0 where
   pub live : IsLive image s
   pub table : HoldsTable image s.slots s.table t
   pub entry : entry_of t.entries e.id ≡ Some e
+
+-- each entry's slot has a node of its level that names nodes of the table of lower levels alone
+abbrev pub HasGoodNodes : Image → Super → StoredTable → Type 0
+HasGoodNodes image s t = (e : TableEntry) → HasEntry image s t e
+    → (n : Node) × IsGoodNode image (level_at t.entries) e.slot e.level n
 
 -- no nodes that the image has by this table are sound
 abbrev pub HasNoSoundNodes : Image → StoredTable → Type 0
@@ -92,16 +86,17 @@ IsNoCommand version r = (c : Command) → IsLoggedIn version c → r ≢ log_rec
 
 -- ---- the block
 
--- a superblock; a table; a node, or a child that it names; nodes that aren't sound; a batch; a
--- record of no command, or of one that is refused by the tree before it, where there is one
+-- a superblock; a table; a node, or a child that it names; good nodes that aren't sound, so that
+-- the table's counts are wrong; a batch; a record of no command, or of one that is refused by the
+-- tree before it, where there is one
 pub data IsBadAt (image : Image) : ℕ → Type 0 where
   bad_super : (b : ℕ) → IsDamaged image b → IsBadAt image b
   bad_table : (s : Super) → IsLive image s → HasNoTable image s.slots s.table
       → IsBadAt image (table_start s)
   bad_node : (s : Super) (t : StoredTable) (e : TableEntry) → HasEntry image s t e
-      → ((n : Node) → ¬ IsGoodNode image t e n) → IsBadAt image (slot_block e.slot)
+      → HasNoGoodNode image (level_at t.entries) e.slot e.level → IsBadAt image (slot_block e.slot)
   unsound_nodes : (s : Super) (t : StoredTable) → IsLive image s
-      → HoldsTable image s.slots s.table t → HasNoSoundNodes image t
+      → HoldsTable image s.slots s.table t → HasGoodNodes image s t → HasNoSoundNodes image t
       → IsBadAt image (table_start s)
   bad_batch : (s : Super) (b : ℕ) → IsLive image s
       → IsDamagedAt image (log_block s.half) s.epoch b → IsBadAt image b

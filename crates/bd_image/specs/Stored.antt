@@ -1,7 +1,7 @@
 -- The nodes that an image stores, by the entries of its table.
-use Rattle.std.specs.Prelude.{◌==◌, ⊤, ℕ, false, List, Option, None, Some}
-use Rattle.std.specs.List.{find}
+use Rattle.std.specs.Prelude.{⊤, ℕ, false, Option, None, Some}
 use Rattle.bd_device.specs.Blocks.{Image}
+use Rattle.bd_table.specs.Entries.{entry_of}
 use Rattle.bd_table.specs.declared.table.Table.{Table as StoredTable}
 use Rattle.bd_table.specs.declared.table.TableEntry.{TableEntry}
 use Rattle.bd_node.specs.declared.node.Node.{Node}
@@ -9,10 +9,6 @@ use Rattle.bd_node.specs.Meaning.{Nodes}
 use Rattle.bd_node.specs.Closed.{buffer_size_in}
 use Rattle.bd_node.specs.Tables.{Table}
 use Rattle.bd_format.specs.Slots.{HasNode}
-
--- the entry of an id
-abbrev pub entry_of : List TableEntry → ℕ → Option TableEntry
-entry_of entries id = find (λ e. e.id == id) entries
 
 -- how often an entry's node is named, 0 without an entry
 abbrev pub refs_in : Option TableEntry → ℕ

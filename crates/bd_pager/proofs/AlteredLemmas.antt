@@ -1,20 +1,17 @@
 -- A pager of which some nodes were changed in memory.
-use Rattle.std.proofs.Common.{◌≡◌, ℕ, ◌+◌, ◌<◌, ◌≤◌, ◌⊎◌, Bool, true, false, ◌&&◌, nat_eq, IsTrue, List, [], length, Option, None, Some, IfSome, refl, sym, ap, subst, ◌∙◌, arith, inl, inr}
+use Rattle.std.proofs.Common.{◌≡◌, ℕ, ◌≤◌, ◌⊎◌, Bool, IsTrue, List, [], length, Option, None, Some, IfSome, refl, sym, ap, subst, ◌∙◌, arith, inl, inr}
 use Rattle.std.specs.Prelude.{IsSome}
-use Rattle.std.specs.Map.{lookup}
 use Rattle.std.proofs.lemmas.Bool.{and_from}
 use Rattle.std.proofs.lemmas.Option.{same_Some}
 use Rattle.bd_limits.specs.Limits.{level_limit}
 use Rattle.bd_device.specs.Blocks.{Image}
 use Rattle.bd_device.specs.declared.device.Device.{Ghosts}
-use Rattle.bd_cache.specs.Cache.{kept_at}
+use Rattle.bd_cache.specs.Cache.{kept_at, room_of}
 use Rattle.bd_cache.specs.declared.cache.NodeCache.{NodeCache}
 use Rattle.bd_node.specs.declared.node.Node.{Node}
 use Rattle.bd_node.specs.declared.node.Step.{Step}
-use Rattle.bd_node.specs.Nodes.{level_of, buffer_size}
 use Rattle.bd_node.specs.Stores.{StaysBy}
 use Rattle.bd_node.specs.Steps.{given, given_or, changed_at, after, level_or, level_after, IsTableAfter}
-use Rattle.bd_node.specs.Tables.{Table}
 use Rattle.bd_node.proofs.Stepping.{by_given, given-old}
 use Rattle.bd_pager.specs.declared.place.Place.{Place}
 use Rattle.bd_pager.specs.declared.place.Spot.{Spot}
@@ -98,6 +95,11 @@ module _ (spare : List Bool) (gives : ℕ → Option Node) (spots new : Spots) (
 
 -- ---- the pager
 
+-- what is cached was before, and none of it is given
+pub record AreStillCached (gives : ℕ → Option Node) (old new : NodeCache) : Type 0 where
+  pub each : (id : ℕ) (n : Node) → kept_at new id ≡ Some n → (kept_at old id ≡ Some n) × (gives id ≡ None)
+  pub room : room_of new ≡ room_of old
+
 module _ {D : Type 0} (g : Ghosts D) (p : Paged D) (step : Step) (entries : List (ℕ × Spot)) (bytes : ℕ) (cache : NodeCache) where
   abbrev pub altered : Paged D
   altered = record p { spots = entries; size = bytes; cache = cache; written = None }
@@ -107,7 +109,7 @@ module _ {D : Type 0} (g : Ghosts D) (p : Paged D) (step : Step) (entries : List
 
   module _ (was : IsPaged (g.contents p.dev) p) (h : AreChanged p.spare gives (spots_of p) (spots_of altered)) (own : (id : ℕ) (n : Node) → gives id ≡ Some n → IsOfLevel (level_in (spots_of p id)) n)
       (sized : IsSome (copy_in (spots_of altered p.root)) → IsOfSize bytes (copy_in (spots_of altered p.root)))
-      (cached : (id : ℕ) (n : Node) → kept_at cache id ≡ Some n → (kept_at p.cache id ≡ Some n) × (gives id ≡ None)) where
+      (cached : AreStillCached gives p.cache cache) where
     refs : (id : ℕ) → refs_in (spots_of altered id) ≡ refs_in (spots_of p id)
     refs = refs_stay p.spare gives (spots_of p) (spots_of altered) h
 
@@ -140,7 +142,7 @@ module _ {D : Type 0} (g : Ghosts D) (p : Paged D) (step : Step) (entries : List
           (λ i n s now some there c. subst (λ (o : Option Node). IfSome o (IsOfLevel now.level)) (sym (copy_there p.spare gives (spots_of p) (spots_of altered) h n s now c)) (own_spot i n s now some there c)) was.placed;
       root = sized root_there;
       cached = λ i m kept.
-          let still = cached i m kept in
+          let still = cached.each i m kept in
           subst (λ (o : Option Spot). IsRead (g.contents p.dev) p.is_lent o m) (sym (h.none i still.1)) (was.cached i m still.0);
       levels = all_kept p.spare gives (spots_of p) (spots_of altered) h (λ i s. s.level ≤ level_limit) (λ i n s now some there c. omega (arith, c.level, was.levels i s there)) was.levels;
       held = was.held;
@@ -150,6 +152,7 @@ module _ {D : Type 0} (g : Ghosts D) (p : Paged D) (step : Step) (entries : List
       stored = all_kept p.spare gives (spots_of p) (spots_of altered) h (λ i s. IsStoredAs p.spare p.saved.entries i s.level s.place)
           (λ i n s now some there c. subst (λ (l : Place). IsStoredAs p.spare p.saved.entries i now.level l) (sym c.place.place) tt) was.stored;
       saved = was.saved;
+      entries = was.entries;
       tails = was.tails;
       ready = tt;
     }
@@ -168,7 +171,7 @@ module _ {D : Type 0} (g : Ghosts D) (p : Paged D) (step : Step) (entries : List
         (λ m some.
         let one : m ≡ n = same_Some m n (sym (copy_given p.spare gives (spots_of p) (spots_of altered) h id m some) ∙ copy) in
         inr (subst (λ (x : Node). NamesLower (spots_of altered) x) one (still_names (spots_of p) (spots_of altered) still_lower m (lower id m some on)))))
-        (λ id n kept. (cached id n kept).0) are
+        (λ id n kept. (cached.each id n kept).0) are
 
     pub altered_table : step.made ≡ [] → step.root ≡ p.root → IsTableAfter (table_of p) step (table_of altered)
     altered_table made root = record {
@@ -217,6 +220,7 @@ module _ {D : Type 0} (g : Ghosts D) (p : Paged D) (step : Step) (entries : List
             and_from (is_saved p.saved.entries id) (is_changed p.spare (spots_of altered id)) both.0 (all_stay p.spare gives (spots_of p) (spots_of altered) h id both.1);
         next = omega arith;
         kept = λ id low kept. omega (arith, refs id, kept);
+        room = cached.room;
         known = altered_known;
         bad = λ known. none_bad p.spare gives (spots_of p) (spots_of altered) h (g.contents p.dev);
       };

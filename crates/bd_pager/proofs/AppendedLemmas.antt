@@ -136,6 +136,7 @@ module _ {D : Type 0} (g : Ghosts D) (p : Paged D) (entries : List (ℕ × Spot)
       stored = each_kept spare p.root more (spots_of p) (spots_of q) h (λ i s. IsStoredAs spare p.saved.entries i s.level s.place)
           (subst (λ (l : Place). IsStoredAs spare p.saved.entries p.root h.now.level l) (sym h.changed.place.place) tt) was.stored;
       saved = was.saved;
+      entries = was.entries;
       tails = was.tails;
       ready = tt;
     }
@@ -211,6 +212,7 @@ module _ {D : Type 0} (g : Ghosts D) (p : Paged D) (entries : List (ℕ × Spot)
             and_from (is_saved p.saved.entries id) (is_changed spare (spots_of q id)) both.0 (changed_stays spare p.root more (spots_of p) (spots_of q) h id both.1);
         next = omega arith;
         kept = λ id low kept. subst (λ (k : ℕ). 1 ≤ k) (same_refs spare p.root more (spots_of p) (spots_of q) h id) kept;
+        room = refl;
         known = appended_known;
         bad = λ known. changed_bad spare p.root more (spots_of p) (spots_of q) h (g.contents p.dev);
       };

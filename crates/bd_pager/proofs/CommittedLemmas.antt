@@ -10,7 +10,7 @@ use Rattle.bd_limits.specs.Limits.{level_limit}
 use Rattle.bd_device.specs.Blocks.{Image}
 use Rattle.bd_table.specs.declared.table.TableEntry.{TableEntry}
 use Rattle.bd_device.specs.declared.device.Device.{Ghosts}
-use Rattle.bd_cache.specs.Cache.{kept_at}
+use Rattle.bd_cache.specs.Cache.{kept_at, room_of}
 use Rattle.bd_cache.specs.declared.cache.NodeCache.{NodeCache}
 use Rattle.bd_node.specs.declared.node.Node.{Node}
 use Rattle.bd_node.specs.declared.node.Node.TheVariants.{Leaf, Inner}
@@ -115,6 +115,7 @@ pub record AreForgotten (put : ℕ → Option (Rc Node Global)) (gone : List ℕ
   pub not_put : (id : ℕ) (n : Node) → kept_at new id ≡ Some n → put id ≡ None
   pub not_gone : (id : ℕ) (n : Node) → kept_at new id ≡ Some n → times_among gone id ≡ 0
   pub not_root : (id : ℕ) (n : Node) → kept_at new id ≡ Some n → IsSome copy → id ≢ root
+  pub room : room_of new ≡ room_of old
 
 module _ {D : Type 0} (g : Ghosts D) (p : Paged D) (step : Step) (put : ℕ → Option (Rc Node Global)) (count : ℕ → Option ℕ) (gone : List ℕ) (root : ℕ) (new_root : NewRoot) (entries : List (ℕ × Spot)) (cache : NodeCache) (last visits : ℕ) where
   abbrev pub q : Paged D
@@ -250,6 +251,7 @@ module _ {D : Type 0} (g : Ghosts D) (p : Paged D) (step : Step) (put : ℕ → 
       slots = each_new (λ id s. IsPlaceIn p.spare s.place) (λ id node put_there gives may. put_in p.spare node (before id) (before_within id (before id) refl)) (λ id s there not_put none. before_in id s there);
       stored = each_new (λ id s. IsStoredAs p.spare p.saved.entries id s.level s.place) (λ id node put_there gives may. tt) (λ id s there not_put none. before_stored id s there);
       saved = λ id saved. omega (arith, was.saved id saved, last_is);
+      entries = was.entries;
       tails = was.tails;
       ready = tt;
     }
@@ -388,6 +390,7 @@ module _ {D : Type 0} (g : Ghosts D) (p : Paged D) (step : Step) (put : ℕ → 
             ]);
         next = omega (arith, last_is);
         kept = kept_old;
+        room = forgotten.room;
         known = committed_known;
         bad = committed_bad;
       };

@@ -285,7 +285,7 @@ module _ {D : Type 0} (g : Ghosts D) (p : Paged D) (n : Node) (made : List Node)
         (subst (λ (o : Option Spot). IsRead (g.contents p.dev) p.is_lent o m) (ap (spots_of p) same ∙ h.changed.there) (was.cached id m kept))))
 
     forgotten : AreForgotten put [] p.root None p.cache p.cache
-    forgotten = record { kept = λ id m kept. kept; not_put = not_cached; not_gone = λ id m kept. refl; not_root = λ id m kept some. absurd (none_copied some) }
+    forgotten = record { kept = λ id m kept. kept; not_put = not_cached; not_gone = λ id m kept. refl; not_root = λ id m kept some. absurd (none_copied some); room = refl }
 
     both : IsPaged (g.contents p.dev) more × IsMade g p taken more
     both = given_made g p taken put (λ id. get nat_eq addition.counts id) [] p.root new_root entries p.cache last visits was given_all_of last_is carried forgotten

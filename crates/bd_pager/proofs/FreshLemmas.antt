@@ -207,6 +207,7 @@ fresh_paged contents p slots h root_is size_is next_is none at_none spare_is gon
       stored = λ id s there. subst (λ (x : Spot). IsStoredAs p.spare p.saved.entries id x.level x.place) (sym (fresh_only spots h id s there))
           (subst (λ (q : Place). IsStoredAs p.spare p.saved.entries id h.root.level q) (sym h.place) tt);
       saved = λ id saved. absurd (let e : false ≡ true = ap (λ (es : List TableEntry). is_saved es id) (sym none) ∙ saved in cc);
+      entries = record { rising = λ i j d lt last. absurd (omega (arith, last, ap length none)); named = λ k d lt. absurd (omega (arith, lt, ap length none)) };
       tails = λ _. subst (λ (used : List ℕ). AreTailsAt contents used) (sym unknown) (none_known contents slots);
       ready = subst (λ (o : Option Written). IfSome o (IsReady p.spare spots p.root p.next)) (sym unwritten) tt;
     }

@@ -6,6 +6,7 @@ pub mod ChangingLemmas
 pub mod CommittedLemmas
 pub mod CopyLemmas
 pub mod CountingLemmas
+pub mod DamageLemmas
 pub mod DraftLemmas
 pub mod EarlyLemmas
 pub mod EntryLemmas

@@ -32,7 +32,7 @@ use Rattle.bd_pager.specs.declared.usage.TheConstants.{IN_MEMORY, STORED}
 use Rattle.bd_pager.specs.Changing.{own_slot}
 use Rattle.bd_pager.specs.Counting.{AreUnused, is_in_memory, is_in_memory_at, has_own, moved, recounted, AreListed, IsListed, IsTallied}
 use Rattle.bd_node.proofs.Sums.{sum_some}
-use Rattle.bd_pager.specs.Moving.{copy_if, freed_at, freed_in, stored_at, IsCachedMore, AreEarlier, IsBefore, IsEarliest, IfSpot, IsHeldAt, IsMovedAt, IsOfPlace, IsOfSpot, IsReservedPlace, IsReservedAt, IsWritablePlace, OnlyMoves}
+use Rattle.bd_pager.specs.Moving.{copy_if, freed_at, freed_in, stored_at, IsCachedMore, AreEarlier, IsBefore, IsEarliest, IfSpot, IsHeldAt, IsMovedAt, IsOfPlace, IsOfSpot, IsReservedPlace, IsReservedAt, IsWritablePlace, IsOfNode, IsOfMoved, OnlyMoves, WritesOnly}
 use Rattle.bd_tails.specs.Tails.{slot_bytes, IsOfSlot}
 use Rattle.bd_format.specs.Slots.{HasNode}
 use Rattle.bd_pager.specs.Slots.{IsOfLevel, IsSpare}
@@ -58,6 +58,27 @@ moves_then g spare root a b c first mid last earlier p q = record {
   root_copy = q.root_copy ∙ p.root_copy;
   known = λ known. q.known (p.known known);
   nodes = λ known id. q.nodes (p.known known) id ∙ p.nodes known id;
+}
+
+-- ---- which blocks are written
+
+pub only_none : {D : Type 0} (g : Ghosts D) (blocks : ℕ → Type 0) (d : D) → WritesOnly g blocks d d
+only_none g blocks d = record {
+  elsewhere = stays_same blocks (g.contents d);
+  time = within Nothing (IsBeforeBut blocks (left_now g d)) (no_reads g d).time (λ c none. absurd none);
+}
+
+pub only_wider : {D : Type 0} (g : Ghosts D) (own all : ℕ → Type 0) (old new : D) → ((b : ℕ) → own b → all b) → WritesOnly g own old new → WritesOnly g all old new
+only_wider g own all old new wider w = record {
+  elsewhere = stays_wider own all (g.contents old) (g.contents new) wider w.elsewhere;
+  time = within (IsBeforeBut own (left_now g old)) (IsBeforeBut all (left_now g old)) w.time (λ c h. before_wider own all (left_now g old) c wider h);
+}
+
+pub only_then : {D : Type 0} (g : Ghosts D) (all own : ℕ → Type 0) (a b c : D) → ((t u : ℕ) (image : Image) → t ≤ u → g.left_since b u image → g.left_since b t image)
+    → ((i : ℕ) → own i → all i) → WritesOnly g all a b → WritesOnly g own b c → WritesOnly g all a c
+only_then g all own a b c earlier wider p q = record {
+  elsewhere = stays_both all (g.contents a) (g.contents b) (g.contents c) p.elsewhere (stays_wider own all (g.contents b) (g.contents c) wider q.elsewhere);
+  time = written_then all own wider p.time earlier q.time;
 }
 
 -- ---- one node is moved, and the device isn't called
@@ -388,6 +409,9 @@ module _ (spare free : List Bool) (mid : Spots) (id : ℕ) (own : HasOwn mid id)
   block_own : (b : ℕ) → IsOfSpot (mid id) b → IsOfSlot own.slot b
   block_own b is = subst (λ (p : Place). IsOfPlace p b) own.place (subst (λ (o : Option Spot). IsOfSpot o b) own.there is)
 
+  pub own_block : (b : ℕ) → IsOfSpot (mid id) b → IsOfNode mid id b
+  own_block b is = record { slot = own.slot; there = own_in; block = block_own b is }
+
   pub own_wider : (b : ℕ) → IsOfSpot (mid id) b → IsSpare spare b
   own_wider b is = (own.slot, own_spare, block_own b is)
 
@@ -443,6 +467,12 @@ module _ {D : Type 0} (g : Ghosts D) (spare free : List Bool) (root id : ℕ) (d
 
   mine : IsFree spare own.slot
   mine = own_spare spare free mid id own was
+
+  pub settled_gone : is_in_memory (last id) ≡ false
+  settled_gone = ap is_in_memory now_here
+
+  pub settled_block : (b : ℕ) → IsOfSpot (mid id) b → IsOfNode last id b
+  settled_block b is = record { slot = own.slot; there = ap slot_in now_here; block = block_own spare free mid id own was b is }
 
   pub settled_moves : (root ≡ id → is_root ≡ true) → (IsSome (g.contents d) → node_in (slot_bytes (told (g.contents d)) own.slot) ≡ Some own.node.value) → OnlyMoves g spare root d d mid last
   settled_moves rooted is =
@@ -609,6 +639,27 @@ earlier_then root id before mid after level so_far first others less = λ i j wa
       ]
       | inr left ↦ so_far i j was left (less j on)
     ]
+
+-- the first of them is still the first where it stays
+pub earliest_still : (root id : ℕ) (mid after : Spots) → ((i : ℕ) → level_in (after i) ≡ level_in (mid i)) → ((i : ℕ) → IsTrue (is_in_memory (after i)) → IsTrue (is_in_memory (mid i)))
+    → IsTrue (is_in_memory (after id)) → IsEarliest root mid id → IsEarliest root after id
+earliest_still root id mid after level less still h = record {
+  memory = λ apart. still;
+  first = λ other on apart. before_at root after mid (λ i. sym (level i)) id other (h.first other (less other on) apart);
+}
+
+-- a slot that was written is still that of a node that has left memory
+pub moved_still : (before mid after : Spots) → ((i : ℕ) → IsTrue (is_in_memory (after i)) → IsTrue (is_in_memory (mid i))) → ((i slot : ℕ) → slot_in (mid i) ≡ Some slot → slot_in (after i) ≡ Some slot)
+    → (b : ℕ) → IsOfMoved before mid b → IsOfMoved before after b
+moved_still before mid after less slots b h = record {
+  id = h.id;
+  was = h.was;
+  gone = elim (by_memory (is_in_memory (after h.id))) [
+    | inl on ↦ absurd (true≢false (sym (less h.id on) ∙ h.gone))
+    | inr off ↦ off
+  ];
+  block = record { slot = h.block.slot; there = slots h.id h.block.slot h.block.there; block = h.block.block };
+}
 
 -- where other ids are listed
 pub relisted : (next : ℕ) (spots : Spots) (u : Usage) (listed : BTreeSet ℕ) → IsTallied next spots u → AreListed spots listed → IsTallied next spots (record u { listed = listed })

@@ -34,7 +34,7 @@ use Rattle.bd_pager.proofs.FlagLemmas.{taken_held, entry_slot, one_entry}
 
 -- ---- entries
 
-of_all : {X : Type 0} (P : X → Type 0) (xs : List X) (x : X) → All P xs → Contains xs x → P x
+pub of_all : {X : Type 0} (P : X → Type 0) (xs : List X) (x : X) → All P xs → Contains xs x → P x
 of_all P xs x all among = subst P among.2 (all among.0 x among.1)
 
 -- an id is that of some entry or of none
@@ -149,6 +149,7 @@ module _ {D : Type 0} (contents : Option Image) (slots : ℕ) (at : List ℕ) (p
         let k : IsOf p.saved id s = kept_of id s there in
         stored_place p.spare p.saved.entries id s.level k.entry s.place k.among k.inside k.id_is (sym k.level);
     saved = saved_within;
+    entries = record { rising = h.table.entries.rising; named = λ k d lt. (h.table.entries.each k d lt).refs };
     tails = λ _. tails;
     ready = subst (λ (o : Option Written). IfSome o (IsReady p.spare (spots_of p) p.root p.next)) (sym h.written) tt;
   }

@@ -1,12 +1,10 @@
 -- What a pager knows of its nodes.
-use Rattle.std.proofs.Common.{◌≡◌, ℕ, ◌≤◌, Bool, true, false, List, Option, None, Some, nat_eq, Err, refl, sym, ap, subst, ◌∙◌, arith}
+use Rattle.std.proofs.Common.{◌≡◌, ℕ, ◌≤◌, Bool, true, false, List, Option, None, Some, nat_eq, refl, sym, ap, subst, ◌∙◌, arith}
 use Rattle.std.specs.Prelude.{IsSome}
 use Rattle.std.specs.HashMap.{HashMap}
 use Rattle.std.specs.Map.{lookup}
 use Rattle.std.specs.List.{AllByRecursion}
 use Rattle.std.proofs.lemmas.Option.{same_Some}
-use Rattle.bd_message.specs.KeyMaps.{HasMapCause, NeverWorn}
-use Rattle.bd_message.specs.declared.fault.MapFault.TheVariants.{Damaged}
 use Rattle.bd_device.specs.Blocks.{Image}
 use Rattle.bd_node.specs.Nodes.{level_of, names}
 use Rattle.bd_node.specs.Meaning.{Nodes}
@@ -72,6 +70,7 @@ read_paged {D} p before after dev entries visits cache is_lent tails same cached
       slots = was.slots;
       stored = was.stored;
       saved = was.saved;
+      entries = was.entries;
       tails = known;
       ready = was.ready;
     })
@@ -107,7 +106,3 @@ sound_lower nodes p id n kept there sound =
     let own : IsNodeOf (table_of p) ((table_of p).level id) n =
     subst (λ (m : Node). IsNodeOf (table_of p) ((table_of p).level id) m) (same_Some stored.node n (sym stored.there ∙ there)) stored.of_table in
     each_weaker (IsLower (table_of p) ((table_of p).level id)) (IsLowerIn (spots_of p) (level_of n)) (λ c h. (h.kept, omega (arith, h.lower, own.level_is))) (names n) own.lower
-
--- damage where no call failed
-pub damage_cause : {T : Type 0} (before now : ℕ) (bad : ℕ → Type 0) (b : ℕ) → now ≡ before → bad b → HasMapCause {T = T} before now bad NeverWorn (Err (Damaged b))
-damage_cause before now bad b same is_bad = record { later = omega (arith, same); kept = tt; stays = same; failed = is_bad }

@@ -1,5 +1,5 @@
 -- A pager in which messages went down from a node to its child.
-use Rattle.std.proofs.Common.{◌≡◌, ◌≢◌, ℕ, ◌+◌, ◌-◌, ◌<◌, ◌≤◌, ◌⊎◌, Bool, true, false, cond, eqb, nat_eq, is_some, IsTrue, List, [], ◌∷◌, map, Option, None, Some, IfSome, refl, sym, ap, subst, ◌∙◌, arith, inl, inr}
+use Rattle.std.proofs.Common.{◌≡◌, ◌≢◌, ℕ, ◌<◌, ◌⊎◌, Bool, true, false, cond, eqb, nat_eq, is_some, IsTrue, List, [], ◌∷◌, map, Option, None, Some, IfSome, refl, sym, ap, subst, ◌∙◌, arith, inl, inr}
 use Rattle.std.specs.Prelude.{IsSome, MatchOption}
 use Rattle.std.specs.Global.{Global}
 use Rattle.std.specs.List.{AllByRecursion}
@@ -11,10 +11,9 @@ use Rattle.std.proofs.lemmas.Bool.{cases_eq, cases_lt, cond-true, cond-false, eq
 use Rattle.std.proofs.lemmas.Option.{none-some, same_Some}
 use Rattle.bd_device.specs.Blocks.{Image}
 use Rattle.bd_device.specs.declared.device.Device.{Ghosts}
-use Rattle.bd_cache.specs.Cache.{kept_at}
+use Rattle.bd_cache.specs.Cache.{kept_at, room_of}
 use Rattle.bd_cache.specs.declared.cache.NodeCache.{NodeCache}
 use Rattle.bd_node.specs.declared.node.Change.{Change}
-use Rattle.bd_node.specs.declared.node.Edge.{Edge}
 use Rattle.bd_node.specs.declared.node.Node.{Node}
 use Rattle.bd_node.specs.declared.node.Step.{Step}
 use Rattle.bd_node.specs.declared.push.Gain.{Gain}
@@ -22,7 +21,6 @@ use Rattle.bd_node.specs.declared.push.Gain.TheVariants.{Messages, Entries}
 use Rattle.bd_node.specs.declared.push.Push.{Push}
 use Rattle.bd_node.specs.Nodes.{level_of, buffer_size, names, appended}
 use Rattle.bd_node.specs.Meaning.{Nodes}
-use Rattle.bd_node.specs.Parts.{IsEdgeAt}
 use Rattle.bd_node.specs.Pushes.{IsRelieved, gained, push_step, IsGain, HasRoomFor, CanMake, IsPush, CanPush, IsPushStep, HasPushed, IsPushed}
 use Rattle.bd_node.specs.Shape.{IsShape}
 use Rattle.bd_node.specs.Steps.{given, changed_at}
@@ -38,7 +36,7 @@ use Rattle.bd_pager.specs.declared.usage.Tally.{Tally}
 use Rattle.bd_pager.specs.declared.usage.Usage.{Usage}
 use Rattle.bd_pager.specs.declared.usage.TheConstants.{IN_MEMORY}
 use Rattle.bd_pager.specs.Calling.{read_keeps, read_known, keeps_both}
-use Rattle.bd_pager.specs.Changing.{own_slot, IsChangedPlace, IsChangedSpot, IsChangedAt}
+use Rattle.bd_pager.specs.Changing.{own_slot, IsChangedSpot, IsChangedAt}
 use Rattle.bd_pager.specs.Counting.{is_in_memory, tally_of, recounted, IsTallied}
 use Rattle.bd_pager.specs.Keeping.{KeepsSaved}
 use Rattle.bd_pager.specs.Places.{Spots, refs_in, level_in, copy_at, copy_in, told, ArePlaced, IsLowerIn}
@@ -47,7 +45,7 @@ use Rattle.bd_pager.specs.Pushing.{placed_at, with_places, AreNodesPushed, HasBe
 use Rattle.bd_pager.specs.Slots.{IsOfLevel}
 use Rattle.bd_pager.specs.Stepping.{held, change_of, put_at, put_spot, with_put}
 use Rattle.bd_pager.specs.Testing.{Marks, is_tested, NamesLower, AreTested}
-use Rattle.bd_pager.proofs.AlteredLemmas.{WasChanged, AreChanged, copy_given, altered, altered_paged, altered_tested, altered_table, altered_stays, altered_nodes, altered_count}
+use Rattle.bd_pager.proofs.AlteredLemmas.{WasChanged, AreChanged, AreStillCached, copy_given, altered, altered_paged, altered_tested, altered_table, altered_stays, altered_nodes, altered_count}
 use Rattle.bd_pager.proofs.CountingLemmas.{changed_tallied}
 use Rattle.bd_pager.proofs.ExtendedLemmas.{copied_there, read_spot}
 use Rattle.bd_pager.proofs.PagerLemmas.{kept_there}
@@ -331,7 +329,7 @@ module _ {D : Type 0} (g : Ghosts D) (p : Paged D) (push : Push) (parent child a
         of_shape (Some s) there = shape_at s.level (copy_at s.place) (was.placed p.root s there)
 
     module _ (bytes : ℕ) (cache : NodeCache) (sized : IsSome (copy_in (lookup (nat_eq p.root) entries)) → IsOfSize bytes (copy_in (lookup (nat_eq p.root) entries)))
-        (cached : (id : ℕ) (n : Node) → kept_at cache id ≡ Some n → (kept_at p.cache id ≡ Some n) × (given p.next taken id ≡ None)) where
+        (cached : AreStillCached (λ id. given p.next taken id) p.cache cache) where
       abbrev pub pushed : Paged D
       pushed = altered g p taken entries bytes cache
 
@@ -520,8 +518,8 @@ module _ {D : Type 0} (g : Ghosts D) (p : Paged D) (push : Push) (entries : List
   pub place_root : IfSome (copy_in (lookup (nat_eq p.root) entries)) IsShape
   place_root = root_shape g p push parent child h.places.parent_is entries was is parent_as child_as h.places.nodes.can h.places.nodes.relieved moved
 
-  uncached : (id : ℕ) (n : Node) → kept_at p.cache id ≡ Some n → (kept_at p.cache id ≡ Some n) × (given p.next made_step id ≡ None)
-  uncached id n kept =
+  uncached_each : (id : ℕ) (n : Node) → kept_at p.cache id ≡ Some n → (kept_at p.cache id ≡ Some n) × (given p.next made_step id ≡ None)
+  uncached_each id n kept =
       let unread : (k : ℕ) (m : Node) → copy_in (spots_of p k) ≡ Some m → id ≡ k → ⊥ = λ k m copy same.
       copy_unread (g.contents p.dev) p.is_lent (spots_of p id) m n (ap (λ (i : ℕ). copy_in (spots_of p i)) same ∙ copy) (was.cached id n kept) in (
         kept,
@@ -531,6 +529,9 @@ module _ {D : Type 0} (g : Ghosts D) (p : Paged D) (push : Push) (entries : List
               | inr it ↦ unread push.parent parent of_parent it.0
             ])),
       )
+
+  uncached : AreStillCached (λ id. given p.next made_step id) p.cache p.cache
+  uncached = record { each = uncached_each; room = refl }
 
   module _ (bytes : ℕ) (sized : IsSome (copy_in (lookup (nat_eq p.root) entries)) → IsOfSize bytes (copy_in (lookup (nat_eq p.root) entries))) where
     pub place_paged : IsPaged (g.contents p.dev) (record p { spots = entries; size = bytes; written = None })
@@ -636,13 +637,16 @@ module _ {D : Type 0} (g : Ghosts D) (p : Paged D) (push : Push) (puts : List Pu
     copies_root = root_shape g p push plan.parent plan.child above entries was is plan.parent_read plan.child_read plan.made.nodes.can plan.made.nodes.relieved copied
 
     module _ (bytes : ℕ) (cache : NodeCache) (sized : IsSome (copy_in (lookup (nat_eq p.root) entries)) → IsOfSize bytes (copy_in (lookup (nat_eq p.root) entries)))
-        (forgotten : (id : ℕ) → kept_at cache id ≡ cond (is_some (put_at puts id)) None (kept_at p.cache id)) where
-      uncached_so : (id : ℕ) (n : Node) → kept_at cache id ≡ Some n → (kept_at p.cache id ≡ Some n) × (given p.next copies id ≡ None)
-      uncached_so id n kept =
+        (forgotten : (id : ℕ) → kept_at cache id ≡ cond (is_some (put_at puts id)) None (kept_at p.cache id)) (room : room_of cache ≡ room_of p.cache) where
+      uncached_at : (id : ℕ) (n : Node) → kept_at cache id ≡ Some n → (kept_at p.cache id ≡ Some n) × (given p.next copies id ≡ None)
+      uncached_at id n kept =
           let still = unput (is_some (put_at puts id)) (kept_at p.cache id) n (sym (forgotten id) ∙ kept) in
           let spot = read_spot (g.contents p.dev) p.is_lent (spots_of p id) n (was.cached id n still.1) in
           let low : id < p.next = was.table.below id (omega (arith, was.used id spot.0 spot.1, ap refs_in spot.1)) in
           (still.1, gives_of id low ∙ sym (put_is puts id) ∙ none_put (put_at puts id) still.0)
+
+      uncached_so : AreStillCached (λ id. given p.next copies id) p.cache cache
+      uncached_so = record { each = uncached_at; room = room }
 
       pub copies_paged : IsPaged (g.contents p.dev) (record p { spots = entries; size = bytes; cache = cache; written = None })
       copies_paged = pushed_paged g p push plan.parent plan.child above entries was is plan.parent_read plan.child_read plan.made.nodes.can plan.made.nodes.relieved copied bytes cache sized uncached_so
@@ -673,17 +677,13 @@ plan_after g old p push puts left plan =
 pub none_made : {X Y : Type 0} (P : X → Type 0) (o : Option X) → o ≡ None → MatchOption o Y P → Y
 none_made {X} {Y} P o none made = subst (λ (x : Option X). MatchOption x Y P) none made
 
--- where the messages can't go down, the nodes aren't sound
-pub no_push : {D : Type 0} (g : Ghosts D) (old p : Paged D) (push : Push) (n m : Node) → OnlyReadsOf g old p → IsReadAs (g.contents old.dev) (spots_of old) push.parent n → IsReadAs (g.contents old.dev) (spots_of old) push.child m
-    → (is_known g old → IsSound (nodes_of g old) (table_of old) → CanPush (nodes_of g old) (table_of old) push) → (CanMake push n m → ⊥) → is_known g p → IsSound (nodes_of g p) (table_of p) → ⊥
-no_push g old p push n m left parent_read child_read can cannot known sound =
-    let before : is_known g old = read_known g old p left.read known in
-    let sound_before : IsSound (nodes_of g old) (table_of old) =
-    subst (λ (t : Table). IsSound (nodes_of g old) t) left.table (subst (λ (ns : Nodes). IsSound ns (table_of p)) (left.kept before) sound) in
-    let may = can before sound_before in
+-- where nothing can be made of the nodes that were read, no push is one
+pub cannot_push : {D : Type 0} (g : Ghosts D) (old : Paged D) (push : Push) (n m : Node) → IsReadAs (g.contents old.dev) (spots_of old) push.parent n → IsReadAs (g.contents old.dev) (spots_of old) push.child m
+    → (CanMake push n m → ⊥) → is_known g old → CanPush (nodes_of g old) (table_of old) push → ⊥
+cannot_push g old push n m parent_read child_read cannot known may =
     cannot
-    (subst (λ (x : Node). CanMake push x m) (same_Some may.parent n (sym may.parent_is ∙ parent_read.there before))
-    (subst (λ (y : Node). CanMake push may.parent y) (same_Some may.child m (sym may.child_is ∙ child_read.there before)) may.can))
+    (subst (λ (x : Node). CanMake push x m) (same_Some may.parent n (sym may.parent_is ∙ parent_read.there known))
+    (subst (λ (y : Node). CanMake push may.parent y) (same_Some may.child m (sym may.child_is ∙ child_read.there known)) may.can))
 
 -- ---- reads before it
 
@@ -740,19 +740,19 @@ module _ {D : Type 0} (g : Ghosts D) (old p : Paged D) (push : Push) (puts : Lis
     read_root = copies_root g p push puts entries was is_then plan_then each
 
     module _ (bytes : ℕ) (cache : NodeCache) (sized : IsSome (copy_in (lookup (nat_eq p.root) entries)) → IsOfSize bytes (copy_in (lookup (nat_eq p.root) entries)))
-        (forgotten : (id : ℕ) → kept_at cache id ≡ cond (is_some (put_at puts id)) None (kept_at p.cache id)) where
+        (forgotten : (id : ℕ) → kept_at cache id ≡ cond (is_some (put_at puts id)) None (kept_at p.cache id)) (room : room_of cache ≡ room_of p.cache) where
       pub read_made : (spare : List Bool) → spare ≡ p.spare → IsPaged (g.contents p.dev) (record p { spots = entries; spare = spare; size = bytes; cache = cache; written = None })
           × HasMadePush g old push (record p { spots = entries; spare = spare; size = bytes; cache = cache; written = None })
       read_made spare same =
           let at : List Bool → Paged D = λ s. record p { spots = entries; spare = s; size = bytes; cache = cache; written = None } in
           subst (λ (s : List Bool). IsPaged (g.contents p.dev) (at s) × HasMadePush g old push (at s)) (sym same) (
-            copies_paged g p push puts entries was is_then plan_then each bytes cache sized forgotten,
-            made_before g old p push left (at p.spare) (copies_made g p push puts entries was is_then plan_then each bytes cache sized forgotten),
+            copies_paged g p push puts entries was is_then plan_then each bytes cache sized forgotten room,
+            made_before g old p push left (at p.spare) (copies_made g p push puts entries was is_then plan_then each bytes cache sized forgotten room),
           )
 
       pub read_tested : (marks now : Marks) → ((id : ℕ) → IsTrue (is_tested now id) → IsTrue (is_tested marks id)) → (IsTrue (is_tested now push.parent) → ⊥) → (IsTrue (is_tested now push.child) → ⊥)
           → AreTested (spots_of p) p.cache marks → AreTested (λ id. lookup (nat_eq id) entries) cache now
-      read_tested = copies_tested g p push puts entries was is_then plan_then each bytes cache sized forgotten
+      read_tested = copies_tested g p push puts entries was is_then plan_then each bytes cache sized forgotten room
 
 -- ---- a push that was given back
 

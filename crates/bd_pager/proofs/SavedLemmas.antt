@@ -112,6 +112,7 @@ saved_paged contents p w was h =
       slots = λ id s there. let k : IsWritten p.spare w id s = of id s there in in_place w.spare k.entry.slot s.place k.inside (omega (arith, k.low, h.spare_is.count));
       stored = λ id s there. let k : IsWritten p.spare w id s = of id s there in stored_place w.spare w.table.entries id s.level k.entry s.place k.among k.inside k.id_is k.level;
       saved = entry_below p.spare (spots_of p) p.root p.next w h;
+      entries = record { rising = h.table.entries.rising; named = λ k d lt. (h.table.entries.each k d lt).refs };
       tails = was.tails;
       ready = tt;
     }

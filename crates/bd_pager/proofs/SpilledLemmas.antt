@@ -89,6 +89,7 @@ module _ {D : Type 0} (g : Ghosts D) (p : Paged D) (e : D) (entries : List (ℕ 
       slots = unused.slots;
       stored = λ id s there. let b = before id s there (spots_of p id) refl in stored_now id s b.0 there b.1 s.place refl;
       saved = was.saved;
+      entries = was.entries;
       tails = known;
       ready = tt;
     }

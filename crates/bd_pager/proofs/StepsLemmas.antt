@@ -99,7 +99,7 @@ planned_after g old p step plan left is =
     (subst (λ (t : Table). IsPlanOf (g.contents old.dev) (spots_of old) t step plan) (sym left.table) is))
 
 pub plan_forgotten : (plan : Plan) (old new : NodeCache) → IsForgotten plan old new → AreForgotten (λ id. put_at plan.puts.items id) plan.recount.gone.items plan.root plan.new_root.copy old new
-plan_forgotten plan old new h = record { kept = h.kept; not_put = h.put; not_gone = h.gone; not_root = h.root }
+plan_forgotten plan old new h = record { kept = h.kept; not_put = h.put; not_gone = h.gone; not_root = h.root; room = h.room }
 
 -- ---- the nodes that it puts
 
@@ -229,6 +229,7 @@ reordered {D} g p entries same was =
       slots = along (λ s. (id : ℕ) (x : Spot) → s id ≡ Some x → IsPlaceIn p.spare x.place) was.slots;
       stored = along (λ s. (id : ℕ) (x : Spot) → s id ≡ Some x → IsStoredAs p.spare p.saved.entries id x.level x.place) was.stored;
       saved = was.saved;
+      entries = was.entries;
       tails = was.tails;
       ready = along (λ s. IfSome p.written (IsReady p.spare s p.root p.next)) was.ready;
     }
@@ -242,7 +243,7 @@ unchanged {D} g p entries same =
       table = ap (λ (s : Spots). table_at s p.root p.size p.next (touched_at p.saved.entries p.spare s)) back;
       known = λ known. subst (λ (s : Spots). IsKnownOver (g.contents p.dev) s) same known;
       kept = λ known. ap (λ (s : Spots). nodes_at (g.contents p.dev) s) back;
-      read = record { device = no_reads g p.dev; lent = λ so. so; spots = back; rest = refl };
+      read = record { device = no_reads g p.dev; lent = λ so. so; spots = back; room = refl; rest = refl };
       same_loans = refl;
     }
 

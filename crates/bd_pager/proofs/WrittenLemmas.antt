@@ -198,6 +198,7 @@ ready_paged contents p w was ready = record {
   slots = was.slots;
   stored = was.stored;
   saved = was.saved;
+  entries = was.entries;
   tails = was.tails;
   ready = ready;
 }

@@ -23,7 +23,13 @@ module _ {D : Type 0} (g : Ghosts D) where
 
   -- no read changes nothing
   pub read_none : (p : Paged D) → IsReadOf g p p
-  read_none p = record { device = no_reads p.dev; lent = λ so. so; spots = refl; rest = refl }
+  read_none p = record {
+    device = no_reads p.dev;
+    lent = λ so. so;
+    spots = refl;
+    room = refl;
+    rest = refl;
+  }
 
   -- nor do two
   pub read_both : (a b c : Paged D) → IsReadOf g a b → IsReadOf g b c → IsReadOf g a c
@@ -31,6 +37,7 @@ module _ {D : Type 0} (g : Ghosts D) where
     device = reads_then p.device q.device;
     lent = λ so. q.lent (p.lent so);
     spots = q.spots ∙ p.spots;
+    room = q.room ∙ p.room;
     rest = q.rest ∙ ap (λ (x : Paged D). let r : Paged D = record x { dev = c.dev; spots = c.spots; visits = c.visits; cache = c.cache; is_lent = c.is_lent; tails = c.tails } in r) p.rest;
   }
 
@@ -57,6 +64,7 @@ module _ {D : Type 0} (g : Ghosts D) where
     touched = λ id low was kept. subst (λ (t : Table). IsTrue (t.touched id)) (sym (read_table a b r)) was;
     next = omega (arith, ap (λ (x : Paged D). x.next) r.rest);
     kept = λ id low kept. subst (λ (t : Table). IsKept t id) (read_table a b r) kept;
+    room = r.room;
     known = λ known.
         subst (λ (s : Spots). IsKnownOver (g.contents b.dev) s) (sym r.spots)
         (subst (λ (o : Option Image). IsKnownOver o (spots_of a)) (sym r.device.kept) known);
@@ -78,6 +86,7 @@ module _ {D : Type 0} (g : Ghosts D) where
         q.touched id later (p.touched id low was (q.kept id later kept)) kept;
     next = omega (arith, p.next, q.next);
     kept = λ id low kept. p.kept id low (q.kept id (omega (arith, low, p.next)) kept);
+    room = q.room ∙ p.room;
     known = λ known. q.known (p.known known);
     bad = λ known id block bad. p.bad known id block (q.bad (p.known known) id block bad);
   }

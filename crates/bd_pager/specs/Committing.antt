@@ -4,7 +4,7 @@ use Rattle.std.specs.Global.{Global}
 use Rattle.std.specs.HashMap.{get}
 use Rattle.std.specs.declared.rc.Rc.{Rc}
 use Rattle.bd_device.specs.Blocks.{Image}
-use Rattle.bd_cache.specs.Cache.{kept_at}
+use Rattle.bd_cache.specs.Cache.{kept_at, room_of}
 use Rattle.bd_cache.specs.declared.cache.NodeCache.{NodeCache}
 use Rattle.bd_node.specs.declared.node.Node.{Node}
 use Rattle.bd_node.specs.declared.node.Step.{Step}
@@ -71,3 +71,4 @@ pub record IsForgotten (plan : Plan) (old new : NodeCache) : Type 0 where
       → times_among plan.recount.gone.items id ≡ 0
   pub root : (id : ℕ) (n : Node) → kept_at new id ≡ Some n → IsSome plan.new_root.copy
       → id ≢ plan.root
+  pub room : room_of new ≡ room_of old

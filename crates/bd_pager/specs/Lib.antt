@@ -1,7 +1,9 @@
 pub mod Calling
+pub mod Causes
 pub mod Changing
 pub mod Committing
 pub mod Counting
+pub mod Damage
 pub mod Drafts
 pub mod Entries
 pub mod Extending

@@ -20,7 +20,7 @@ use Rattle.bd_tails.specs.Tails.{IsOfSlot}
 use Rattle.bd_format.specs.Slots.{HasNode}
 use Rattle.bd_pager.specs.Slots.{IsOfLevel, IsSpare}
 use Rattle.bd_pager.specs.Places.{Spots, refs_in, level_in, slot_in, copy_in, nodes_at, NoneTurnsBad}
-use Rattle.bd_pager.specs.Pagers.{Paged, spots_of, is_changed, IsKnownOver, is_known}
+use Rattle.bd_pager.specs.Pagers.{Paged, cache_room, spots_of, is_changed, IsKnownOver, is_known}
 
 -- ---- one node
 
@@ -131,6 +131,40 @@ AreEarlier root before after = (id other : ℕ) → IsTrue (is_in_memory (before
     → is_in_memory (after id) ≡ false → IsTrue (is_in_memory (after other))
     → IsBefore root before id other
 
+-- ---- which blocks are written
+
+-- the block is one of the slot that the node has
+pub record IsOfNode (spots : Spots) (id b : ℕ) : Type 0 where
+  pub slot : ℕ
+  pub there : slot_in (spots id) ≡ Some slot
+  pub block : IsOfSlot slot b
+
+-- the block is one of the slot of a node that has left memory
+pub record IsOfMoved (before after : Spots) (b : ℕ) : Type 0 where
+  pub id : ℕ
+  pub was : IsTrue (is_in_memory (before id))
+  pub gone : is_in_memory (after id) ≡ false
+  pub block : IsOfNode after id b
+
+-- the block is one of the slot of the node that comes first of those in memory
+pub record IsOfFirst (root : ℕ) (spots : Spots) (b : ℕ) : Type 0 where
+  pub id : ℕ
+  pub memory : IsTrue (is_in_memory (spots id))
+  pub first : IsEarliest root spots id
+  pub block : IsOfNode spots id b
+
+-- the block is due to be written: its slot is that of a node that has left memory by that, or,
+-- where a write failed, which may have torn it, that of the node that is next
+abbrev pub IsDue : ℕ → Bool → Spots → Spots → ℕ → Type 0
+IsDue root false before after = IsOfMoved before after
+IsDue root true before after = λ b. IsOfMoved before after b ⊎ IsOfFirst root after b
+
+-- these blocks alone are written, also where a call failed
+pub record WritesOnly {D : Type 0} (g : Ghosts D) (blocks : ℕ → Type 0) (old new : D) : Type 0
+  where
+    pub elsewhere : StaysBut blocks (g.contents old) (g.contents new)
+    pub time : Goes g old new (IsBeforeBut blocks (left_now g old))
+
 -- ---- several
 
 -- nothing is written but to spare slots, also where a call failed; what is seen of nodes stays, and
@@ -151,11 +185,12 @@ pub record OnlyMoves {D : Type 0} (g : Ghosts D) (spare : List Bool) (root : ℕ
   pub nodes : IsKnownOver (g.contents old) before → (id : ℕ)
       → nodes_at (g.contents new) after id ≡ nodes_at (g.contents old) before id
 
--- so it is with a pager, and no block becomes bad
+-- so it is with a pager, whose cache keeps its room, and no block becomes bad
 pub record Spills {D : Type 0} (g : Ghosts D) (old new : Paged D) : Type 0 where
   pub moves : OnlyMoves g old.spare old.root old.dev new.dev (spots_of old) (spots_of new)
   pub bad : is_known g old
       → NoneTurnsBad (g.contents old.dev) (spots_of old) (g.contents new.dev) (spots_of new)
+  pub room : cache_room new ≡ cache_room old
   pub rest : new ≡ record old {
     dev = new.dev;
     spots = new.spots;

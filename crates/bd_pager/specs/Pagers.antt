@@ -1,14 +1,15 @@
 -- What a pager is seen as.
-use Rattle.std.specs.Prelude.{◌≡◌, ◌<◌, ◌≤◌, ◌⊎◌, ◌==◌, ◌&&◌, ◌++◌, ⊤, ℕ, Bool, true, false, List, length, Option, None, Some, All, Any, IfSome, IsSome, IsTrue, nat_eq, slice_index, slice_index_or}
+use Rattle.std.specs.Prelude.{◌≡◌, ◌<◌, ◌≤◌, ◌⊎◌, ◌==◌, ◌&&◌, ◌++◌, ⊤, ℕ, Bool, true, false, List, length, Option, None, Some, All, Any, IfSome, IsSome, IsTrue, nat_eq, slice_index_or}
 use Rattle.std.specs.List.{list_any}
 use Rattle.std.specs.Map.{lookup}
 use Rattle.bd_limits.specs.Limits.{level_limit}
-use Rattle.bd_slots.specs.Layout.{slot_block, AreSlots}
+use Rattle.bd_slots.specs.Layout.{AreSlots}
 use Rattle.bd_slots.specs.Slots.{IsFree, IsHeld}
 use Rattle.bd_device.specs.Blocks.{Image}
 use Rattle.bd_device.specs.Device.{OnlyReads}
 use Rattle.bd_device.specs.declared.device.Device.{Ghosts}
 use Rattle.bd_format.specs.Decoding.{node_in}
+use Rattle.bd_cache.specs.Cache.{cached_count, room_of}
 use Rattle.bd_cache.specs.declared.cache.NodeCache.{NodeCache}
 use Rattle.bd_node.specs.declared.node.Node.{Node}
 use Rattle.bd_node.specs.Nodes.{buffer_size}
@@ -19,6 +20,7 @@ use Rattle.bd_table.specs.declared.table.Table.{Table as Checkpoint}
 use Rattle.bd_table.specs.declared.table.TableEntry.{TableEntry}
 use Rattle.bd_tails.specs.Tails.{AreTails, slot_bytes}
 use Rattle.bd_tails.specs.declared.tails.Tails.{Tails}
+use Rattle.bd_pager.specs.Damage.{AreSavedEntries, IsFirstDamaged}
 use Rattle.bd_pager.specs.Places.{Spots, refs_in, level_in, copy_in, told, nodes_at, AreCached, ArePlaced, IsBadSpot}
 use Rattle.bd_pager.specs.declared.place.Place.{Place}
 use Rattle.bd_pager.specs.declared.place.Place.TheVariants.{Memory, Slot}
@@ -44,6 +46,14 @@ pub record Paged (D : Type 0) : Type 0 where
   pub is_lent : Bool
   pub tails : Tails
   pub written : Option Written
+
+-- so many nodes are cached: kept in memory since they were read from slots or written there
+abbrev pub cached_of : {D : Type 0} → Paged D → ℕ
+cached_of p = cached_count p.cache
+
+-- and at most so many
+abbrev pub cache_room : {D : Type 0} → Paged D → ℕ
+cache_room p = room_of p.cache
 
 -- ---- nodes
 
@@ -102,17 +112,16 @@ is_known g p = IsKnownOver (g.contents p.dev) (spots_of p)
 
 -- ---- damage
 
--- the block is that of a slot without its node, or else the first one of the checkpoint's table,
--- where the nodes aren't sound
-abbrev pub IsDamaged : Option Image → Spots → Table → List ℕ → ℕ → Type 0
-IsDamaged contents spots t at b =
-    ((id : ℕ) × IsBadSpot contents (spots id) b)
-    ⊎ ((b ≡ slot_block (slice_index at 0)) × ¬ IsSound (nodes_at contents spots) t)
+-- the block that is damaged where the nodes aren't sound, by the last checkpoint
+abbrev pub is_first_damaged : {D : Type 0} → Ghosts D → Paged D → ℕ → Type 0
+is_first_damaged g p = IsFirstDamaged (g.contents p.dev) p.saved.entries p.at
 
--- a bad block, where the nodes are known
+-- a bad block, where the nodes are known: that of a slot without its node; or, where the nodes
+-- aren't sound, the one that is damaged then
 abbrev pub is_bad : {D : Type 0} → Ghosts D → Paged D → ℕ → Type 0
-is_bad g p b =
-    is_known g p → IsDamaged (g.contents p.dev) (spots_of p) (table_of p) p.at b
+is_bad g p b = is_known g p
+    → ((id : ℕ) × IsBadSpot (g.contents p.dev) (spots_of p id) b)
+    ⊎ (is_first_damaged g p b × ¬ IsSound (nodes_of g p) (table_of p))
 
 -- ---- what holds of a pager
 
@@ -160,9 +169,9 @@ pub record IsReady (spare : List Bool) (spots : Spots) (root next : ℕ) (w : Wr
     pub free_is : w.free ≡ w.spare
 
 -- what holds whatever the device has: each kept node is named; the root is in memory; the slots
--- that the checkpoint holds differ, the others are spare, and nodes in those are as it has them; no
--- saved id is a new one; slots end in zeros where it says so, unless the device was lent since; what
--- is written is of the nodes
+-- that the checkpoint holds differ, the others are spare, and nodes in those are as it has them;
+-- its entries have rising ids, none of them a new one; slots end in zeros where it says so, unless
+-- the device was lent since; what is written is of the nodes
 pub record IsPaged {D : Type 0} (contents : Option Image) (p : Paged D) : Type 0 where
   pub table : IsTable (table_of p)
   pub used : (id : ℕ) (s : Spot) → spots_of p id ≡ Some s → 1 ≤ s.refs
@@ -176,6 +185,7 @@ pub record IsPaged {D : Type 0} (contents : Option Image) (p : Paged D) : Type 0
   pub stored : (id : ℕ) (s : Spot) → spots_of p id ≡ Some s
       → IsStoredAs p.spare p.saved.entries id s.level s.place
   pub saved : (id : ℕ) → IsTrue (is_saved p.saved.entries id) → id < p.next
+  pub entries : AreSavedEntries p.saved.entries
   pub tails : p.is_lent ≡ false → AreTails contents p.tails
   pub ready : IfSome p.written (IsReady p.spare (spots_of p) p.root p.next)
 
@@ -202,11 +212,13 @@ seen reader saved at spare root size next visits written = record {
   written = written;
 }
 
--- only the device was read, and what is counted and kept of reads has changed
+-- only the device was read, and what is counted and kept of reads has changed; the cache keeps its
+-- room
 pub record IsReadOf {D : Type 0} (g : Ghosts D) (old new : Paged D) : Type 0 where
   pub device : OnlyReads g old.dev new.dev
   pub lent : old.is_lent ≡ false → new.is_lent ≡ false
   pub spots : spots_of new ≡ spots_of old
+  pub room : cache_room new ≡ cache_room old
   pub rest : new ≡ record old {
     dev = new.dev;
     spots = new.spots;

@@ -6,6 +6,7 @@
 
 mod changing;
 mod committing;
+mod damage;
 mod draft;
 mod early;
 mod entries;

@@ -1,8 +1,8 @@
 //! The pager.
 
-ghost use Rattle.std.specs.Prelude.{◌<◌, ◌^◌, ◌≡◌, ◌≤◌, ◌⊎◌, [], None, Some, false, length, min, IsSome, IfOk, IfErr, IfSome, OnOk, OnErr, slice_index};
+ghost use Rattle.std.specs.Prelude.{◌<◌, ◌^◌, ◌≡◌, ◌≤◌, ◌⊎◌, [], None, Some, false, is_err, length, min, IsSome, IfOk, IfErr, IfSome, OnOk, OnErr};
 ghost use Rattle.std.specs.Borrow.{sem};
-ghost use Rattle.bd_message.specs.KeyMaps.{HasMapCause, NeverWorn};
+ghost use Rattle.bd_message.specs.KeyMaps.{HasMapCause, IsCause, NeverWorn, StaysUnlessDevice};
 ghost use Rattle.bd_slots.specs.Layout.{IsTablePlace, image_blocks};
 ghost use Rattle.bd_device.specs.Calls.{faults_after};
 ghost use Rattle.bd_device.specs.Device.{left_now, OnlyReads, FailsLast, IsImageCause};
@@ -14,14 +14,15 @@ ghost use Rattle.bd_node.specs.Steps.{append_step, HasGrown, IsCommitted};
 ghost use Rattle.bd_node.specs.Stores.{visited, FitsRoot, OnlyReadsBy, StaysBy};
 ghost use Rattle.bd_node.specs.Tables.{kept_count, IsKept, IsNodeOf, IsSound, IsTable};
 ghost use Rattle.bd_pager.specs.Calling.{read_none, read_both, read_known};
+ghost use Rattle.bd_pager.specs.Causes.{is_bad_to_fetch};
 ghost use Rattle.bd_pager.specs.Counting.{changed_of, free_of, memory_of, IsFull, IsTallied};
 ghost use Rattle.bd_pager.specs.Fresh.{assembled, IsUnsaved};
 ghost use Rattle.bd_pager.specs.Keeping.{KeepsSaved};
 ghost use Rattle.bd_pager.specs.Lending.{lends_device};
-ghost use Rattle.bd_pager.specs.Moving.{AreEarlier, Spills};
+ghost use Rattle.bd_pager.specs.Moving.{AreEarlier, IsDue, Spills, WritesOnly};
 ghost use Rattle.bd_pager.specs.Opened.{IsOpened, IsBadStart};
-ghost use Rattle.bd_pager.specs.Pagers.{table_of, nodes_of, spots_of, saved_as, is_known, is_bad, IsPaged, IsReadOf};
-ghost use Rattle.bd_pager.specs.Places.{spots_in, AreCached};
+ghost use Rattle.bd_pager.specs.Pagers.{cached_of, cache_room, table_of, nodes_of, spots_of, saved_as, is_known, IsPaged, IsReadOf, is_first_damaged};
+ghost use Rattle.bd_pager.specs.Places.{spots_in, AreCached, IsBadSpot};
 ghost use Rattle.bd_tails.specs.Tails.{AreTails};
 
 mod pushing;
@@ -43,7 +44,6 @@ use bd_format::laws::images_are_decoded;
 use bd_io::Failed;
 use bd_message::MapFault;
 use bd_node::{Messages, Node};
-use bd_slots::slot_block;
 use bd_table::Table;
 use std::alloc::Global;
 use std::marker::Model;
@@ -58,7 +58,11 @@ use std::rc::Rc;
 /// step holds and names, and of the nodes that it changes and that go, each of which it finds,
 /// however many nodes there are. An append takes the time of its messages, an extension that of its
 /// messages, of its new nodes, and of a look at what the root names where a fetch would look at it,
-/// unless a caller holds the root. Only `open` and `write_out` look at all nodes.
+/// unless a caller holds the root. Only `open` and `write_out` look at all nodes, and a call that
+/// finds that the nodes aren't sound, which looks for the block that is damaged.
+///
+/// Nodes that were read from slots or written there are cached, at most as many as it was made for;
+/// each call keeps that number. The root's node is in memory beside them.
 #[derive(Drop)]
 pub struct Pager<D: Device> {
     alloc: Global,
@@ -99,13 +103,14 @@ pub struct Refused<D> {
 
 impl<D: Device> Pager<D> {
     /// A pager over a device of so many slots that has saved nothing: a root of level 1 without a
-    /// child. It makes no call of the device. It keeps at most `room` nodes that it has read.
+    /// child. It makes no call of the device. At most `room` nodes will be cached, beside the root.
     pub fn fresh(alloc: Global, dev: D, slots: u32, room: usize) -> Result<Pager<D>, Refused<D>>
         requires { 1 ≤ room }
         ensures nodes { IfOk result (λ pager. nodes_of D.Device pager ≡ new_nodes) }
         ensures table { IfOk result (λ pager. table_of pager ≡ new_table) }
         ensures known { IsSome (D.contents dev) → IfOk result (is_known D.Device) }
         ensures unsaved { IfOk result (IsUnsaved slots dev) }
+        ensures room { IfOk result (λ pager. cache_room pager ≡ room) }
         ensures refused { IfErr result
             (λ refused. (refused.fault ≡ NoMemory) × (refused.device ≡ dev)) }
     {
@@ -119,11 +124,11 @@ impl<D: Device> Pager<D> {
     }
 
     /// The pager over the checkpoint of a device of so many slots whose table has the slots `at`.
-    /// It reads this table and the root, and keeps at most `room` nodes that it has read. Where it
-    /// fails, it returns the device. `DeviceFault` comes only where a call of the device failed,
-    /// which is the last one then. `Damaged` comes exactly where the slots `at` have no table, and
-    /// names the first block of the first of them, or where the root's slot has no node of its
-    /// level, and names that slot's first block.
+    /// It reads this table and the root. At most `room` nodes will be cached, beside the root.
+    /// Where it fails, it returns the device. `DeviceFault` comes only where a call of the device
+    /// failed, which is the last one then. `Damaged` comes exactly where the slots `at` have no
+    /// table, and names the first block of the first of them, or where the root's slot has no node
+    /// of its level, and names that slot's first block.
     pub fn open(
         alloc: Global,
         mut dev: D,
@@ -135,6 +140,7 @@ impl<D: Device> Pager<D> {
         requires size { D.block_count dev ≡ image_blocks slots }
         requires room { 1 ≤ room }
         ensures opened { IfOk result (IsOpened (D.contents dev) slots at.items) }
+        ensures room { IfOk result (λ pager. cache_room pager ≡ room) }
         ensures known { IsSome (D.contents dev) → IfOk result (is_known D.Device) }
         ensures reads { IfOk result (λ pager. OnlyReads D.Device dev pager.dev) }
         ensures faults { IfOk result (λ pager. D.fault_count pager.dev ≡ D.fault_count dev) }
@@ -191,8 +197,10 @@ impl<D: Device> Pager<D> {
     }
 
     /// The node of a kept id: well-formed, and it names kept nodes of lower levels. One visit.
-    /// `Damaged` names the first block of a slot without its node, or that of the checkpoint's
-    /// table where a name can't be right.
+    /// `Damaged` names the first block of the node's slot, which hasn't it; or where a name can't
+    /// be right, that of the first slot of the checkpoint, by rising ids, without a node of its
+    /// level that names nodes of lower levels alone, and where there is no such slot that of its
+    /// table.
     pub fn fetch(&mut self, id: u64) -> Result<Rc<Node>, MapFault>
         requires { IsKept (table_of self.old) id }
         ensures contents { is_known D.Device self.old
@@ -205,7 +213,7 @@ impl<D: Device> Pager<D> {
             (IsReadOf D.Device) (λ _. []) self.old self.new }
         ensures visits { self.new.visits ≡ visited self.old.visits 1 }
         ensures cause { HasMapCause (D.fault_count self.old.dev) (D.fault_count self.new.dev)
-            (is_bad D.Device self.new) NeverWorn result }
+            (D.last_failed self.new.dev) (is_bad_to_fetch D.Device self.new id) NeverWorn result }
     {
         self.visits = self.visits.saturating_add(1);
         let (node, is_lower) = match self.reader.find_lower(self.alloc, id) {
@@ -213,11 +221,30 @@ impl<D: Device> Pager<D> {
             Err(fault) => return Err(fault),
         };
         if !is_lower {
-            return Err(MapFault::Damaged {
-                block: slot_block(first_slot(self.at.as_slice())),
-            });
+            return Err(self.damage());
         }
         Ok(node)
+    }
+
+    // The damage where the nodes aren't sound, or what failed where that was looked for.
+    fn damage(&mut self) -> MapFault
+        ensures left { OnlyReadsBy (is_known D.Device) (nodes_of D.Device) table_of
+            (IsReadOf D.Device) (λ _. []) self.old self.new }
+        ensures visits { self.new.visits ≡ self.old.visits }
+        ensures later { D.fault_count self.old.dev ≤ D.fault_count self.new.dev }
+        ensures stays { StaysUnlessDevice (D.fault_count self.old.dev) (D.fault_count self.new.dev)
+            result }
+        ensures cause { IsCause (D.fault_count self.old.dev) (D.fault_count self.new.dev)
+            (D.last_failed self.new.dev) (is_first_damaged D.Device self.new) NeverWorn result }
+    {
+        match self.reader.first_damaged(
+            self.alloc,
+            self.saved.entries.as_slice(),
+            self.at.as_slice(),
+        ) {
+            Ok(block) => MapFault::Damaged { block },
+            Err(fault) => fault,
+        }
     }
 
     /// Puts messages after those that wait in the root: the commit of the root changed so, for the
@@ -240,7 +267,7 @@ impl<D: Device> Pager<D> {
         ensures device { self.new.dev ≡ self.old.dev }
         ensures lent { self.new.is_lent ≡ self.old.is_lent }
         ensures cause { HasMapCause (D.fault_count self.old.dev) (D.fault_count self.new.dev)
-            (is_bad D.Device self.new) NeverWorn result }
+            (D.last_failed self.new.dev) (λ _. ⊥) NeverWorn result }
     {
         let added = list.size();
         match append_counted(
@@ -361,14 +388,17 @@ impl<D: Device> Pager<D> {
     }
 
     /// Writes changed nodes that are in memory to slots of their own, those of the lowest level
-    /// first, among them those of least ids, and the root last of all, until at most `early` of them
-    /// are in memory or no slot is free. Nothing that is seen changes, also where it fails, and it
-    /// writes without a barrier to slots alone that the last checkpoint doesn't hold. What
-    /// `write_out` has written is no longer ready. `Failed` comes only where a call of the device
-    /// failed, which is the last one then. It needs no memory.
+    /// first, among them those of least ids, and the root last of all, until at most `early` of
+    /// them are in memory or no slot is free. Nothing that is seen changes, also where it fails,
+    /// and it writes without a barrier to slots alone that the last checkpoint doesn't hold: to
+    /// those of the nodes that it moves out of memory, and where it fails to that of the next one
+    /// too. What `write_out` has written is no longer ready. `Failed` comes only where a call of
+    /// the device failed, which is the last one then. It needs no memory.
     pub fn spill(&mut self, early: u64) -> Result<(), Failed>
         requires { D.block_count self.old.dev ≡ image_blocks (length self.old.spare) }
         ensures spills { Spills D.Device self.old self.new }
+        ensures due { WritesOnly D.Device (IsDue self.old.root (is_err result)
+            (spots_of self.old) (spots_of self.new)) self.old.dev self.new.dev }
         ensures written { self.new.written ≡ None }
         ensures few { OnOk result ((memory_of self.new ≤ early) ⊎ IsFull self.new) }
         ensures enough { min early (memory_of self.old) ≤ memory_of self.new }
@@ -410,6 +440,13 @@ impl<D: Device> Pager<D> {
         ensures { IsPaged (D.contents self.now.dev) self.now }
     {
         let _ = &self.alloc;
+    }
+
+    /// No more nodes are cached than it was made for. It does nothing.
+    pub fn few_are_cached(&self)
+        ensures { cached_of self.now ≤ cache_room self.now }
+    {
+        let _ = self.reader.cache.len();
     }
 
     /// The device, which is lent. Whatever is done with it, the pager then reads again what it read
@@ -459,7 +496,10 @@ impl<D: Device> Counted for Pager<D> {
 
     ghost fault_count = { λ p. D.fault_count p.dev };
 
-    ghost bad = { is_bad D.Device };
+    ghost last_failed = { λ p. D.last_failed p.dev };
+
+    ghost bad = { λ p id b. is_known D.Device p
+        → IsBadSpot (D.contents p.dev) (spots_of p id) b };
 
     ghost reads = { IsReadOf D.Device };
 
@@ -488,11 +528,4 @@ impl<D: Device> Counted for Pager<D> {
     fn next_id(&self) -> u64 {
         self.next
     }
-}
-
-// The first of these slots, and 0 where there is none.
-fn first_slot(at: &[u32]) -> u32
-    ensures { result ≡ slice_index at.now 0 }
-{
-    at.first().copied().unwrap_or(0)
 }

@@ -1,6 +1,7 @@
 //! What pagers are made of.
 
 ghost use Rattle.std.specs.Prelude.{◌≡◌, ◌≤◌, ◌<◌, ◌++◌, IfOk, IfSome, AllPairs, Contains};
+ghost use Rattle.bd_cache.specs.Cache.{room_of};
 ghost use Rattle.bd_slots.specs.Layout.{AreSlots, IsTablePlace, image_blocks};
 ghost use Rattle.bd_device.specs.Device.{OnlyReads, HasImageCause};
 ghost use Rattle.bd_node.specs.New.{new_root};
@@ -48,7 +49,8 @@ impl Parts {
     /// child, in memory. At most `room` nodes that were read will be kept.
     pub fn fresh(alloc: Global, slots: u32, room: usize) -> Result<Parts, AllocError>
         requires { 1 ≤ room }
-        ensures { IfOk result (AreFreshParts slots) }
+        ensures fresh { IfOk result (AreFreshParts slots) }
+        ensures room { IfOk result (λ parts. room_of parts.cache ≡ room) }
     {
         let node = Rc::new(alloc, childless_root(alloc)?)?;
         let root = Spot {
@@ -94,6 +96,7 @@ impl Parts {
         ensures parts { IfOk result (λ parts. IsOpened (D.contents dev.old) slots at.items
             (assembled dev.new parts)) }
         ensures usage { IfOk result (λ parts. IsUnchanged parts.usage) }
+        ensures room { IfOk result (λ parts. room_of parts.cache ≡ room) }
         ensures reads { OnlyReads D.Device dev.old dev.new }
         ensures cause { HasImageCause D.Device dev.old dev.new
             (IsBadStart (D.contents dev.old) slots at.items) result }

@@ -2,7 +2,7 @@
 
 ghost use Rattle.std.specs.Prelude.{◌≡◌, ◌≢◌, ◌<◌, ◌==◌, ℕ, if◌then◌else◌, is_some, None, Some, IfOk, IfSome, IsSome, MatchOption, OnOk, OnErr};
 ghost use Rattle.std.specs.List.{AllByRecursion};
-ghost use Rattle.bd_cache.specs.Cache.{kept_at};
+ghost use Rattle.bd_cache.specs.Cache.{kept_at, room_of};
 ghost use Rattle.bd_node.specs.Nodes.{level_of};
 ghost use Rattle.bd_node.specs.Pushes.{gained, CanMake, IsGain};
 ghost use Rattle.bd_node.specs.Shape.{IsShape};
@@ -216,6 +216,7 @@ pub fn put_kept(
         ≡ with_put usage.old.spare (put_at puts.items id) (spots_in spots.old id)) }
     ensures cache { OnOk result ((id : ℕ) → kept_at cache.new id
         ≡ (if is_some (put_at puts.items id) then None else kept_at cache.old id)) }
+    ensures room { room_of cache.new ≡ room_of cache.old }
     ensures spare { usage.new.spare ≡ usage.old.spare }
     ensures tallied { OnOk result ((next : ℕ)
         → AllByRecursion (λ put. put.id < next) puts.items

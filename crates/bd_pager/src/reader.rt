@@ -4,15 +4,17 @@ ghost use Rattle.std.specs.Prelude.{◌≡◌, ◌↔◌, ℕ, None, Some, false
 ghost use Rattle.std.specs.List.{AllByRecursion};
 ghost use Rattle.bd_message.specs.KeyMaps.{HasMapCause, NeverWorn};
 ghost use Rattle.bd_device.specs.Device.{OnlyReads};
-ghost use Rattle.bd_cache.specs.Cache.{kept_at};
+ghost use Rattle.bd_cache.specs.Cache.{kept_at, room_of};
 ghost use Rattle.bd_node.specs.declared.node.Node.{Node};
 ghost use Rattle.bd_node.specs.Nodes.{level_of, names};
 ghost use Rattle.bd_format.specs.Slots.{HasNode};
+ghost use Rattle.bd_pager.specs.Damage.{AreSavedEntries, IsFirstDamaged};
 ghost use Rattle.bd_pager.specs.Slots.{IsOfLevel, IsBadSlot};
 ghost use Rattle.bd_pager.specs.Places.{spots_in, level_in, copy_in, nodes_at, IsAlone, IsLowerIn, IsRead, AreCached, IsBadSpot};
 ghost use Rattle.bd_pager.specs.Readers.{IsFoundAs, IsReading, map_fault};
 ghost use Rattle.bd_pager.specs.Testing.{is_tested, IsAtHand};
 
+use crate::damage::first_damaged;
 use crate::extending::copy_names_lower;
 use crate::naming::names_lower;
 use crate::place::{Place, Spot};
@@ -24,6 +26,7 @@ use bd_format::laws::images_are_decoded;
 use bd_limits::SLOT_SIZE;
 use bd_message::MapFault;
 use bd_node::Node;
+use bd_table::TableEntry;
 use bd_tails::Tails;
 use std::alloc::{AllocError, Global};
 use std::collections::HashMap;
@@ -69,8 +72,10 @@ impl<D: Device> NodeReader<D> {
         ensures reading { IsReading (D.contents self.new.dev) self.new }
         ensures spots { self.new.spots ≡ self.old.spots }
         ensures lent { self.old.is_lent ≡ false → self.new.is_lent ≡ false }
+        ensures room { room_of self.new.cache ≡ room_of self.old.cache }
         ensures reads { OnlyReads D.Device self.old.dev self.new.dev }
         ensures cause { HasMapCause (D.fault_count self.old.dev) (D.fault_count self.new.dev)
+            (D.last_failed self.new.dev)
             (IsBadSpot (D.contents self.old.dev) (spots_in self.old.spots id)) NeverWorn result }
     {
         images_are_decoded();
@@ -102,8 +107,10 @@ impl<D: Device> NodeReader<D> {
         ensures reading { IsReading (D.contents self.new.dev) self.new }
         ensures spots { self.new.spots ≡ self.old.spots }
         ensures lent { self.old.is_lent ≡ false → self.new.is_lent ≡ false }
+        ensures room { room_of self.new.cache ≡ room_of self.old.cache }
         ensures reads { OnlyReads D.Device self.old.dev self.new.dev }
         ensures cause { HasMapCause (D.fault_count self.old.dev) (D.fault_count self.new.dev)
+            (D.last_failed self.new.dev)
             (IsBadSpot (D.contents self.old.dev) (spots_in self.old.spots id)) NeverWorn result }
     {
         let node = match self.find(alloc, id) {
@@ -125,6 +132,7 @@ impl<D: Device> NodeReader<D> {
         ensures reading { IsReading (D.contents self.new.dev) self.new }
         ensures spots { self.new.spots ≡ self.old.spots }
         ensures lent { self.new.is_lent ≡ self.old.is_lent }
+        ensures room { room_of self.new.cache ≡ room_of self.old.cache }
         ensures device { self.new.dev ≡ self.old.dev }
     {
         if self.tested.has(id) {
@@ -145,6 +153,40 @@ impl<D: Device> NodeReader<D> {
             ↔ AllByRecursion (IsLowerIn (spots_in self.now.spots) (level_of n)) (names n) }
     {
         self.tested.has(id) || copy_names_lower(&self.spots, id)
+    }
+
+    /// The block that is damaged where the nodes aren't sound, by the entries of the last
+    /// checkpoint and its table's slots.
+    pub fn first_damaged(
+        &mut self,
+        alloc: Global,
+        entries: &[TableEntry],
+        at: &[u32],
+    ) -> Result<u64, MapFault>
+        requires reading { IsReading (D.contents self.old.dev) self.old }
+        requires entries { AreSavedEntries entries.now }
+        ensures first { IfOk result
+            (IsFirstDamaged (D.contents self.old.dev) entries.now at.now) }
+        ensures reading { IsReading (D.contents self.new.dev) self.new }
+        ensures spots { self.new.spots ≡ self.old.spots }
+        ensures lent { self.old.is_lent ≡ false → self.new.is_lent ≡ false }
+        ensures room { room_of self.new.cache ≡ room_of self.old.cache }
+        ensures reads { OnlyReads D.Device self.old.dev self.new.dev }
+        ensures cause { HasMapCause (D.fault_count self.old.dev) (D.fault_count self.new.dev)
+            (D.last_failed self.new.dev) (λ _. ⊥) NeverWorn result }
+    {
+        self.trust();
+        match first_damaged(
+            alloc,
+            &mut self.dev,
+            entries,
+            at,
+            &mut self.buffer,
+            &mut self.tails,
+        ) {
+            Ok(block) => Ok(block),
+            Err(fault) => Err(map_fault(fault)),
+        }
     }
 
     // What is known of a kept id before anything is read.
@@ -170,8 +212,10 @@ impl<D: Device> NodeReader<D> {
         ensures reading { IsReading (D.contents self.new.dev) self.new }
         ensures spots { self.new.spots ≡ self.old.spots }
         ensures lent { self.old.is_lent ≡ false → self.new.is_lent ≡ false }
+        ensures room { room_of self.new.cache ≡ room_of self.old.cache }
         ensures reads { OnlyReads D.Device self.old.dev self.new.dev }
         ensures cause { HasMapCause (D.fault_count self.old.dev) (D.fault_count self.new.dev)
+            (D.last_failed self.new.dev)
             (IsBadSlot (D.contents self.old.dev) slot level) NeverWorn result }
     {
         self.trust();
@@ -195,8 +239,10 @@ impl<D: Device> NodeReader<D> {
         ensures reading { IsReading (D.contents self.new.dev) self.new }
         ensures spots { self.new.spots ≡ self.old.spots }
         ensures lent { self.old.is_lent ≡ false → self.new.is_lent ≡ false }
+        ensures room { room_of self.new.cache ≡ room_of self.old.cache }
         ensures reads { OnlyReads D.Device self.old.dev self.new.dev }
         ensures cause { HasMapCause (D.fault_count self.old.dev) (D.fault_count self.new.dev)
+            (D.last_failed self.new.dev)
             (IsBadSlot (D.contents self.old.dev) slot level) NeverWorn result }
     {
         let node = match read_node(
@@ -225,6 +271,7 @@ impl<D: Device> NodeReader<D> {
         ensures reading { IsReading (D.contents self.new.dev) self.new }
         ensures trusted { self.new.is_lent ≡ false }
         ensures kept { self.old.is_lent ≡ false → self.new.cache ≡ self.old.cache }
+        ensures room { room_of self.new.cache ≡ room_of self.old.cache }
         ensures spots { self.new.spots ≡ self.old.spots }
         ensures device { self.new.dev ≡ self.old.dev }
     {
@@ -247,6 +294,7 @@ impl<D: Device> NodeReader<D> {
         ensures cached { IfSome (kept_at self.new.cache id) (λ m. m ≡ node.now.value) }
         ensures tested { self.new.tested ≡ self.old.tested }
         ensures lent { self.new.is_lent ≡ self.old.is_lent }
+        ensures room { room_of self.new.cache ≡ room_of self.old.cache }
         ensures spots { self.new.spots ≡ self.old.spots }
         ensures device { self.new.dev ≡ self.old.dev }
     {

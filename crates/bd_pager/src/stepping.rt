@@ -4,7 +4,7 @@ ghost use Rattle.std.specs.Prelude.{◌≡◌, ◌<◌, ◌≤◌, ◌==◌, ◌
 ghost use Rattle.std.specs.HashMap.{get};
 ghost use Rattle.std.specs.List.{AllByRecursion};
 ghost use Rattle.std.specs.Option.{option_copied};
-ghost use Rattle.bd_cache.specs.Cache.{kept_at};
+ghost use Rattle.bd_cache.specs.Cache.{kept_at, room_of};
 ghost use Rattle.bd_slots.specs.Slots.{IsHeld};
 ghost use Rattle.bd_counts.specs.Naming.{times_among};
 ghost use Rattle.bd_pager.specs.Changing.{own_slot};
@@ -170,7 +170,9 @@ fn uncount(usage: &mut Usage, spot: &Spot)
 
 /// Keeps no node for these ids any more.
 pub fn forget_all(cache: &mut NodeCache, ids: &[u64])
-    ensures { (id : ℕ) → kept_at cache.new id ≡ without_all ids.now id (kept_at cache.old id) }
+    ensures kept { (id : ℕ) → kept_at cache.new id
+        ≡ without_all ids.now id (kept_at cache.old id) }
+    ensures room { room_of cache.new ≡ room_of cache.old }
 {
     for id in ids {
         cache.forget(*id);
@@ -179,8 +181,9 @@ pub fn forget_all(cache: &mut NodeCache, ids: &[u64])
 
 /// Keeps no node any more for an id for which one is put.
 pub fn forget_puts(cache: &mut NodeCache, puts: &[Put])
-    ensures { (id : ℕ) → kept_at cache.new id
+    ensures kept { (id : ℕ) → kept_at cache.new id
         ≡ (if is_some (put_at puts.now id) then None else kept_at cache.old id) }
+    ensures room { room_of cache.new ≡ room_of cache.old }
 {
     for put in puts {
         cache.forget(put.id);

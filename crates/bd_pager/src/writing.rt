@@ -1,8 +1,8 @@
 //! Nodes that are written to their own slots.
 
-ghost use Rattle.std.specs.Prelude.{◌≡◌, ◌≢◌, ◌⊎◌, ◌-◌, ◌<◌, ◌≤◌, ℕ, Some, IsSome, IsTrue, IfSome, OnOk, OnErr, length, min, false, Option};
+ghost use Rattle.std.specs.Prelude.{◌≡◌, ◌≢◌, ◌⊎◌, ◌-◌, ◌<◌, ◌≤◌, ℕ, Some, IsSome, IsTrue, IfSome, OnOk, OnErr, is_err, length, min, false, Option};
 ghost use Rattle.std.specs.Option.{option_map};
-ghost use Rattle.bd_cache.specs.Cache.{node_of};
+ghost use Rattle.bd_cache.specs.Cache.{node_of, room_of};
 ghost use Rattle.bd_slots.specs.Layout.{image_blocks};
 ghost use Rattle.bd_slots.specs.Slots.{free_count};
 ghost use Rattle.bd_device.specs.Calls.{faults_after};
@@ -11,7 +11,7 @@ ghost use Rattle.bd_device.specs.Device.{left_now, Goes, Stays, FailsLast};
 ghost use Rattle.bd_device.specs.Blocks.{Image};
 ghost use Rattle.bd_tails.specs.Tails.{AreTails};
 ghost use Rattle.bd_pager.specs.Counting.{is_in_memory, AreBelow, AreUnused, IsTallied};
-ghost use Rattle.bd_pager.specs.Moving.{copy_if, freed_at, freed_in, stored_at, AreEarlier, IfSpot, IsCachedMore, IsHeldAt, IsMovedAt, IsOfPlace, IsOfSpot, IsReservedAt, IsReservedPlace, IsReservedSpot, IsWritablePlace, OnlyMoves};
+ghost use Rattle.bd_pager.specs.Moving.{copy_if, freed_at, freed_in, stored_at, AreEarlier, IfSpot, IsCachedMore, IsHeldAt, IsMovedAt, IsOfPlace, IsOfSpot, IsReservedAt, IsReservedPlace, IsReservedSpot, IsWritablePlace, IsOfNode, IsDue, OnlyMoves, WritesOnly};
 ghost use Rattle.bd_pager.specs.Places.{spots_in};
 ghost use Rattle.bd_pager.specs.declared.place.Place.TheVariants.{Memory, Slot};
 ghost use Rattle.bd_pager.specs.Readers.{IsReading};
@@ -50,9 +50,13 @@ pub fn write_at<D: Device>(
     requires room { 1 ≤ free_count usage.old.free }
     ensures moves { OnlyMoves D.Device usage.old.spare root reader.old.dev reader.new.dev
         (spots_in reader.old.spots) (spots_in reader.new.spots) }
+    ensures only { WritesOnly D.Device (IsOfNode (spots_in reader.new.spots) id)
+        reader.old.dev reader.new.dev }
     ensures reading { IsReading (D.contents reader.new.dev) reader.new }
     ensures lent { reader.new.is_lent ≡ reader.old.is_lent }
+    ensures cache_room { room_of reader.new.cache ≡ room_of reader.old.cache }
     ensures spare { usage.new.spare ≡ usage.old.spare }
+    ensures gone { OnOk result (is_in_memory (spots_in reader.new.spots id) ≡ false) }
     ensures stored { OnOk result (usage.new.in_memory ≡ usage.old.in_memory - 1) }
     ensures others { (other : ℕ) → other ≢ id
         → is_in_memory (spots_in reader.new.spots other)
@@ -84,7 +88,7 @@ pub fn write_at<D: Device>(
 
 /// Writes nodes that are in memory as `write_at` does, those of the lowest level first, among them
 /// those of least ids, and the root last of all, until at most `early` are in memory or no slot is
-/// free.
+/// free. It writes no blocks but those of their slots.
 #[tactic(auto, using(bd_device::proofs::Calls::calls))]
 pub fn write_early<D: Device>(
     reader: &mut NodeReader<D>,
@@ -98,8 +102,11 @@ pub fn write_early<D: Device>(
     requires size { D.block_count reader.old.dev ≡ image_blocks (length usage.old.spare) }
     ensures moves { OnlyMoves D.Device usage.old.spare root reader.old.dev reader.new.dev
         (spots_in reader.old.spots) (spots_in reader.new.spots) }
+    ensures due { WritesOnly D.Device (IsDue root (is_err result) (spots_in reader.old.spots)
+        (spots_in reader.new.spots)) reader.old.dev reader.new.dev }
     ensures reading { IsReading (D.contents reader.new.dev) reader.new }
     ensures lent { reader.new.is_lent ≡ reader.old.is_lent }
+    ensures cache_room { room_of reader.new.cache ≡ room_of reader.old.cache }
     ensures spare { usage.new.spare ≡ usage.old.spare }
     ensures few { OnOk result
         ((usage.new.in_memory ≤ early) ⊎ (free_count usage.new.free ≡ 0)) }
@@ -241,6 +248,7 @@ fn settle(spots: &mut HashMap<u64, Spot>, cache: &mut NodeCache, id: u64, is_roo
     ensures moved { IsMovedAt id (stored_at is_root) (spots_in spots.old) (spots_in spots.new) }
     ensures cached { IsCachedMore id (freed_in is_root (spots_in spots.old id))
         cache.old cache.new }
+    ensures room { room_of cache.new ≡ room_of cache.old }
 {
     if let Some(node) = settle_spot(spots, id, is_root) {
         let _ = cache.put(id, node);

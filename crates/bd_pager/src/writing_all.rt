@@ -2,6 +2,7 @@
 
 ghost use Rattle.std.specs.Prelude.{◌≡◌, ◌+◌, ◌≤◌, IfOk, IfSome, length};
 ghost use Rattle.bd_limits.specs.Limits.{slot_limit};
+ghost use Rattle.bd_cache.specs.Cache.{room_of};
 ghost use Rattle.bd_slots.specs.Layout.{image_blocks};
 ghost use Rattle.bd_slots.specs.Slots.{free_count};
 ghost use Rattle.bd_device.specs.Calls.{faults_after};
@@ -45,6 +46,7 @@ pub fn write_all<D: Device>(
         (spots_in reader.old.spots) (spots_in reader.new.spots) }
     ensures reading { IsReading (D.contents reader.new.dev) reader.new }
     ensures lent { reader.new.is_lent ≡ reader.old.is_lent }
+    ensures cache_room { room_of reader.new.cache ≡ room_of reader.old.cache }
     ensures spare { usage.new.spare ≡ usage.old.spare }
     ensures tallied { IsTallied next (spots_in reader.new.spots) usage.new }
     ensures ready { IfOk result

@@ -1,4 +1,5 @@
 pub mod BlockLemmas
+pub mod EntryLemmas
 pub mod FreeLemmas
 pub mod TableLemmas
 pub mod WordLemmas

@@ -1,3 +1,4 @@
+pub mod Entries
 pub mod Image
 pub mod Tables
 pub mod Words

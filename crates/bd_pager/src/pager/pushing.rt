@@ -6,25 +6,28 @@ ghost use Rattle.bd_node.specs.declared.node.Node.{Node};
 ghost use Rattle.bd_node.specs.Pushes.{IsPush, CanPush, HasPushed, IsPushed};
 ghost use Rattle.bd_node.specs.Stores.{OnlyReadsBy, StaysBy};
 ghost use Rattle.bd_node.specs.Tables.{IsKept, IsSound};
+ghost use Rattle.bd_pager.specs.Causes.{is_bad_to_push};
 ghost use Rattle.bd_pager.specs.Keeping.{KeepsSaved};
-ghost use Rattle.bd_pager.specs.Pagers.{table_of, nodes_of, spots_of, is_known, is_bad, IsReadOf};
+ghost use Rattle.bd_pager.specs.Pagers.{table_of, nodes_of, spots_of, is_known, IsReadOf};
+ghost use Rattle.bd_pager.specs.Places.{IsBadSpot};
 ghost use Rattle.bd_pager.specs.Pushing.{IsPushPlan, IsReadAs};
 
-use super::{Pager, first_slot};
+use super::Pager;
 use crate::pushing::{push_in_place, push_puts, put_kept, waiting_in};
 use crate::stepping::Put;
 use bd_device::Device;
 use bd_message::MapFault;
 use bd_node::{Node, Push};
-use bd_slots::slot_block;
 use std::rc::Rc;
 
 impl<D: Device> Pager<D> {
     /// Lets messages go down from a private node to its private child: the commit of both changed
     /// so, for the cost of what goes down and of a look at what else waits in the two where these
     /// were changed before and nobody else holds them; else copies of them are changed. No visit.
-    /// `Damaged` names the first block of a slot without its node, or that of the checkpoint's table
-    /// where the messages can't go down, as the nodes aren't sound.
+    /// `Damaged` names the first block of the slot of one of the two, which hasn't it; or where the
+    /// messages can't go down, as the nodes aren't sound, that of the first slot of the checkpoint,
+    /// by rising ids, without a node of its level that names nodes of lower levels alone, and where
+    /// there is no such slot that of its table.
     pub fn push_down(&mut self, push: Push) -> Result<(), MapFault>
         requires push { IsPush (table_of self.old) push }
         requires can { is_known D.Device self.old
@@ -43,7 +46,7 @@ impl<D: Device> Pager<D> {
             (IsReadOf D.Device) (λ _. []) self.old self.new) }
         ensures visits { self.new.visits ≡ self.old.visits }
         ensures cause { HasMapCause (D.fault_count self.old.dev) (D.fault_count self.new.dev)
-            (is_bad D.Device self.new) NeverWorn result }
+            (D.last_failed self.new.dev) (is_bad_to_push D.Device self.new push) NeverWorn result }
     {
         match push_in_place(self.alloc, &mut self.reader.spots, push) {
             Ok(None) => {}
@@ -74,7 +77,7 @@ impl<D: Device> Pager<D> {
             (IsReadOf D.Device) (λ _. []) self.old self.new) }
         ensures visits { self.new.visits ≡ self.old.visits }
         ensures cause { HasMapCause (D.fault_count self.old.dev) (D.fault_count self.new.dev)
-            (is_bad D.Device self.new) NeverWorn result }
+            (D.last_failed self.new.dev) (is_bad_to_push D.Device self.new push) NeverWorn result }
     {
         let (parent, child) = (push.parent, push.child);
         let puts = match self.push_plan(push) {
@@ -109,7 +112,7 @@ impl<D: Device> Pager<D> {
             (IsReadOf D.Device) (λ _. []) self.old self.new }
         ensures visits { self.new.visits ≡ self.old.visits }
         ensures cause { HasMapCause (D.fault_count self.old.dev) (D.fault_count self.new.dev)
-            (is_bad D.Device self.new) NeverWorn result }
+            (D.last_failed self.new.dev) (is_bad_to_push D.Device self.new push) NeverWorn result }
     {
         let parent = match self.read(push.parent) {
             Ok(node) => node,
@@ -121,9 +124,7 @@ impl<D: Device> Pager<D> {
         };
         match push_puts(self.alloc, &parent, child, push) {
             Ok(Some(puts)) => Ok(puts),
-            Ok(None) => Err(MapFault::Damaged {
-                block: slot_block(first_slot(self.at.as_slice())),
-            }),
+            Ok(None) => Err(self.damage()),
             Err(_) => Err(MapFault::NoMemory),
         }
     }
@@ -137,7 +138,8 @@ impl<D: Device> Pager<D> {
             (IsReadOf D.Device) (λ _. []) self.old self.new }
         ensures visits { self.new.visits ≡ self.old.visits }
         ensures cause { HasMapCause (D.fault_count self.old.dev) (D.fault_count self.new.dev)
-            (is_bad D.Device self.new) NeverWorn result }
+            (D.last_failed self.new.dev) (λ b. is_known D.Device self.new
+            → IsBadSpot (D.contents self.new.dev) (spots_of self.new id) b) NeverWorn result }
     {
         match self.reader.find(self.alloc, id) {
             Ok(node) => Ok(node),

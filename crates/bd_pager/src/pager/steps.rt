@@ -8,13 +8,16 @@ ghost use Rattle.bd_node.specs.Shape.{IsShape};
 ghost use Rattle.bd_node.specs.Steps.{IsStep, IsInPlace, StayAbove, IsTableAfter, IsCommitted, IsWornBy, IsWornByAdding, IsRootOf, extend_step};
 ghost use Rattle.bd_node.specs.Stores.{visited, OnlyReadsBy, StaysBy};
 ghost use Rattle.bd_node.specs.Tables.{IsKept, IsSound};
+ghost use Rattle.bd_pager.specs.Causes.{is_bad_to_commit, is_bad_to_extend};
 ghost use Rattle.bd_pager.specs.Committing.{IsNewRoot, IsPlanOf, IsRecountOf};
 ghost use Rattle.bd_pager.specs.Extending.{IsAdditionOf};
 ghost use Rattle.bd_pager.specs.Keeping.{KeepsSaved};
-ghost use Rattle.bd_pager.specs.Pagers.{table_of, nodes_of, spots_of, is_known, is_bad, IsReadOf};
+ghost use Rattle.bd_pager.specs.Pagers.{table_of, nodes_of, spots_of, is_known, IsReadOf};
+ghost use Rattle.bd_pager.specs.Places.{copy_in, IsBadSpot};
 ghost use Rattle.bd_pager.specs.Stepping.{put_at, held};
+ghost use Rattle.bd_pager.specs.Testing.{NamesLower};
 
-use super::{Pager, first_slot};
+use super::Pager;
 use crate::committing::{NewRoot, Plan, carry_out, made_puts, put_in, puts_of};
 use crate::extending::{Addition, extend_spots};
 use crate::stepping::Put;
@@ -23,14 +26,15 @@ use bd_counts::{NewCounts, added, recount};
 use bd_device::Device;
 use bd_message::{Counter, MapFault, Message};
 use bd_node::{Items, Messages, Node, Step};
-use bd_slots::slot_block;
 
 impl<D: Device> Pager<D> {
     /// Makes a step, all of it or nothing. The counts are exact after it, whatever the device has; a
     /// node whose count has fallen to 0 goes, and what it alone named too. All that it needs is read
     /// before the first change: what the changed nodes were, the nodes that go, and a root that was
-    /// none. One visit for each made node. `Damaged` names the first block of a slot without its
-    /// node, or that of the checkpoint's table where the nodes aren't sound.
+    /// none. One visit for each made node. `Damaged` names the first block of the slot of one of
+    /// these, which hasn't it; or where a count would fall too low, that of the first slot of the
+    /// checkpoint, by rising ids, without a node of its level that names nodes of lower levels
+    /// alone, and where there is no such slot that of its table.
     pub fn commit(&mut self, step: Step) -> Result<(), MapFault>
         requires step { IsStep (table_of self.old) step }
         requires in_place { is_known D.Device self.old
@@ -49,7 +53,8 @@ impl<D: Device> Pager<D> {
             (self.new.visits ≡ visited self.old.visits (length step.made)) }
         ensures err_visits { OnErr result (self.new.visits ≡ self.old.visits) }
         ensures cause { HasMapCause (D.fault_count self.old.dev) (D.fault_count self.new.dev)
-            (is_bad D.Device self.new) (IsWornBy (table_of self.old) step) result }
+            (D.last_failed self.new.dev) (is_bad_to_commit D.Device self.new step)
+            (IsWornBy (table_of self.old) step) result }
     {
         let made = step.made.len() as u64;
         let plan = match self.planned(step) {
@@ -89,7 +94,8 @@ impl<D: Device> Pager<D> {
             (IsReadOf D.Device) (λ _. []) self.old self.new }
         ensures visits { self.new.visits ≡ self.old.visits }
         ensures cause { HasMapCause (D.fault_count self.old.dev) (D.fault_count self.new.dev)
-            (is_bad D.Device self.new) (IsWornBy (table_of self.old) step) result }
+            (D.last_failed self.new.dev) (is_bad_to_commit D.Device self.new step)
+            (IsWornBy (table_of self.old) step) result }
     {
         if self.next.checked_add(step.made.len() as u64).is_none() {
             return Err(MapFault::Worn(Counter::NextId));
@@ -131,16 +137,15 @@ impl<D: Device> Pager<D> {
             (IsReadOf D.Device) (λ _. []) self.old self.new }
         ensures visits { self.new.visits ≡ self.old.visits }
         ensures cause { HasMapCause (D.fault_count self.old.dev) (D.fault_count self.new.dev)
-            (is_bad D.Device self.new) (IsWornBy (table_of self.old) step.now) result }
+            (D.last_failed self.new.dev) (is_bad_to_commit D.Device self.new step.now)
+            (IsWornBy (table_of self.old) step.now) result }
     {
         let found = match recount(self.alloc, &mut *self, step) {
             Ok(found) => found,
             Err(fault) => return Err(fault),
         };
         let Some(recount) = found else {
-            return Err(MapFault::Damaged {
-                block: slot_block(first_slot(self.at.as_slice())),
-            });
+            return Err(self.damage());
         };
         Ok(recount)
     }
@@ -155,7 +160,8 @@ impl<D: Device> Pager<D> {
             (IsReadOf D.Device) (λ _. []) self.old self.new }
         ensures visits { self.new.visits ≡ self.old.visits }
         ensures cause { HasMapCause (D.fault_count self.old.dev) (D.fault_count self.new.dev)
-            (is_bad D.Device self.new) NeverWorn result }
+            (D.last_failed self.new.dev) (λ b. is_known D.Device self.new
+            → IsBadSpot (D.contents self.new.dev) (spots_of self.new root) b) NeverWorn result }
     {
         if let Some(node) = put_in(puts, root) {
             return Ok(NewRoot {
@@ -177,9 +183,11 @@ impl<D: Device> Pager<D> {
     /// Puts messages after those that wait in the root, and new nodes under the next ids, which the
     /// messages and one another may name: the commit of the root changed so, for the cost of the
     /// messages and the new nodes, and of a look at what the root names where a fetch would look at
-    /// it, unless a caller holds the root's node. It makes no call of the device. One visit for each
-    /// new node. `Damaged` names the first block of the checkpoint's table, where what the root
-    /// names can't be right.
+    /// it, unless a caller holds the root's node. It makes no call of the device, unless what the
+    /// root names can't be right. One visit for each new node. `Damaged` comes only there, and
+    /// names the first block of the first slot of the checkpoint, by rising ids, without a node of
+    /// its level that names nodes of lower levels alone, and where there is no such slot that of
+    /// its table.
     pub fn extend(&mut self, made: Items<Node>, list: Messages) -> Result<(), MapFault>
         requires { (root : Node) → IsRootOf (table_of self.old) root
             → IsStep (table_of self.old) (extend_step (table_of self.old) root made list) }
@@ -199,14 +207,15 @@ impl<D: Device> Pager<D> {
         ensures visits { OnOk result
             (self.new.visits ≡ visited self.old.visits (length made)) }
         ensures err_visits { OnErr result (self.new.visits ≡ self.old.visits) }
-        ensures device { self.new.dev ≡ self.old.dev }
+        ensures device { IfSome (copy_in (spots_of self.old (table_of self.old).root))
+            (NamesLower (spots_of self.old)) → self.new.dev ≡ self.old.dev }
+        ensures ok_device { OnOk result (self.new.dev ≡ self.old.dev) }
         ensures cause { HasMapCause (D.fault_count self.old.dev) (D.fault_count self.new.dev)
-            (is_bad D.Device self.new) (IsWornByAdding (table_of self.old) made list) result }
+            (D.last_failed self.new.dev) (is_bad_to_extend D.Device self.new)
+            (IsWornByAdding (table_of self.old) made list) result }
     {
         if !self.reader.copy_names_lower(self.root) {
-            return Err(MapFault::Damaged {
-                block: slot_block(first_slot(self.at.as_slice())),
-            });
+            return Err(self.damage());
         }
         let count = made.len() as u64;
         let added = list.size();
@@ -236,7 +245,8 @@ impl<D: Device> Pager<D> {
     fn addition(&self, made: Items<Node>, list: &[Message]) -> Result<Addition, MapFault>
         ensures addition { IfOk result (IsAdditionOf (table_of self.now) made list.now) }
         ensures cause { HasMapCause (D.fault_count self.now.dev) (D.fault_count self.now.dev)
-            (is_bad D.Device self.now) (IsWornByAdding (table_of self.now) made list.now) result }
+            (D.last_failed self.now.dev) (λ _. ⊥) (IsWornByAdding (table_of self.now) made list.now)
+            result }
     {
         if self.next.checked_add(made.len() as u64).is_none() {
             return Err(MapFault::Worn(Counter::NextId));

@@ -21,6 +21,8 @@ impl<D: Device> NodeStore for Pager<D> {
 
     ghost fault_count = { λ p. D.fault_count p.dev };
 
+    ghost last_failed = { λ p. D.last_failed p.dev };
+
     ghost bad = { is_bad D.Device };
 
     ghost reads = { IsReadOf D.Device };

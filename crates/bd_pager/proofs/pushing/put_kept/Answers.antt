@@ -1,4 +1,3 @@
-use Rattle.std.proofs.Common.{refl}
 use Rattle.bd_pager.specs.Places.{spots_in}
 use Rattle.bd_pager.proofs.CountingLemmas.{listed_tallied, err_anyway}
 use Rattle.bd_pager.proofs.pushing.put_kept.Goals as goal

@@ -4,9 +4,10 @@ use Rattle.std.specs.Ordering.{nat_cmp}
 use Rattle.std.proofs.lemmas.Bool.{eq-eqb}
 use Rattle.bd_pager.specs.declared.usage.Usage.{Usage}
 use Rattle.bd_pager.specs.Counting.{IsTallied}
+use Rattle.bd_pager.specs.Moving.{IsOfNode, IsOfSpot}
 use Rattle.bd_pager.specs.Places.{spots_in}
 use Rattle.bd_pager.proofs.CountingLemmas.{removed_listed}
-use Rattle.bd_pager.proofs.MovingLemmas.{moves_then, device_moves, cached_kept, has_own_now, reserved_moves, reserved_unused, reserved_tallied, reserved_placed, reserved_cached, own_writable, own_wider, own_apart, own_there, settled_moves, settled_placed, settled_cached, settled_tallied}
+use Rattle.bd_pager.proofs.MovingLemmas.{moves_then, only_wider, device_moves, cached_kept, has_own_now, reserved_moves, reserved_unused, reserved_tallied, reserved_placed, reserved_cached, own_writable, own_block, own_wider, own_apart, own_there, settled_gone, settled_block, settled_moves, settled_placed, settled_cached, settled_tallied}
 use Rattle.bd_pager.proofs.TestedLemmas.{reserved_tested, settled_tested}
 use Rattle.bd_pager.proofs.writing.write_at.Goals as goal
 
@@ -111,3 +112,32 @@ returns-clause-tallied g c = λ next low tallied.
     subst (λ (x : Usage). IsTallied next last (record x { listed = c.remove.new.self })) (sym c.recount.ensures)
     (settled_tallied D u.spare c.reserve.new.free c.args.root c.args.id c.args.reader.now.dev mid last own unused _ c.settle.ensures.moved next v c.remove.new.self refl refl low (removed_listed u.listed c.remove.new.self c.args.id (subst (λ (x : Usage). Updates nat_cmp x.listed c.remove.new.self c.args.id false) c.recount.ensures c.remove.ensures.updates))
     (reserved_tallied next u c.args.id spots mid c.reserve.new.free c.reserve.ensures low tallied))
+
+pub returns-in_err-write_spot-clause-only : goal.returns-in_err-write_spot-clause-only
+returns-in_err-write_spot-clause-only g c =
+    let u = c.args.usage.now in
+    let mid = spots_in c.reserve.new.spots in
+    let own = has_own_now c.args.id (spots_in c.args.reader.now.spots) u.free mid c.reserve.new.free c.reserve.ensures c.requires.memory in
+    let unused = reserved_unused u.spare u.free c.args.id (spots_in c.args.reader.now.spots) mid c.reserve.new.free c.reserve.ensures c.requires.unused in
+    let written = c.write_spot.ensures in
+    only_wider g.D.Device (IsOfSpot (mid c.args.id)) (IsOfNode mid c.args.id) c.args.reader.now.dev c.write_spot.new.dev (own_block u.spare c.reserve.new.free mid c.args.id own unused) (record { elsewhere = written.elsewhere; time = written.time })
+
+pub returns-clause-only : goal.returns-clause-only
+returns-clause-only g c =
+    let u = c.args.usage.now in
+    let e = c.write_spot.new.dev in
+    let mid = spots_in c.reserve.new.spots in
+    let last = spots_in c.settle.new.spots in
+    let own = has_own_now c.args.id (spots_in c.args.reader.now.spots) u.free mid c.reserve.new.free c.reserve.ensures c.requires.memory in
+    let unused = reserved_unused u.spare u.free c.args.id (spots_in c.args.reader.now.spots) mid c.reserve.new.free c.reserve.ensures c.requires.unused in
+    let written = c.write_spot.ensures in
+    only_wider g.D.Device (IsOfSpot (mid c.args.id)) (IsOfNode last c.args.id) c.args.reader.now.dev e (settled_block g.D.Device u.spare c.reserve.new.free c.args.root c.args.id e mid last own unused _ c.settle.ensures.moved)
+    (record { elsewhere = written.elsewhere; time = written.time })
+
+pub returns-clause-gone : goal.returns-clause-gone
+returns-clause-gone g c =
+    let u = c.args.usage.now in
+    let mid = spots_in c.reserve.new.spots in
+    let own = has_own_now c.args.id (spots_in c.args.reader.now.spots) u.free mid c.reserve.new.free c.reserve.ensures c.requires.memory in
+    let unused = reserved_unused u.spare u.free c.args.id (spots_in c.args.reader.now.spots) mid c.reserve.new.free c.reserve.ensures c.requires.unused in
+    settled_gone g.D.Device u.spare c.reserve.new.free c.args.root c.args.id c.write_spot.new.dev mid (spots_in c.settle.new.spots) own unused _ c.settle.ensures.moved

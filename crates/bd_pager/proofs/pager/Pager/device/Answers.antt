@@ -21,6 +21,7 @@ invariant_of-self-lent g c = λ w.
         slots = was.slots;
         stored = was.stored;
         saved = was.saved;
+        entries = was.entries;
         tails = λ not_lent. absurd (let e : true ≡ false = not_lent in cc);
         ready = was.ready;
       },

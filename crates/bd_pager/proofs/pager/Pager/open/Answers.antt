@@ -6,7 +6,7 @@ use Rattle.bd_tails.specs.Tails.{AreTails}
 use Rattle.bd_pager.specs.Fresh.{assembled}
 use Rattle.bd_pager.specs.Opened.{IsOpened}
 use Rattle.bd_pager.specs.Places.{told}
-use Rattle.bd_pager.specs.Pagers.{Paged, IsRightPlace, is_known}
+use Rattle.bd_pager.specs.Pagers.{Paged, cache_room, IsRightPlace, is_known}
 use Rattle.bd_pager.proofs.OpenedLemmas.{opened_paged, opened_right, opened_tallied}
 use Rattle.bd_pager.proofs.pager.Pager.open.Goals as goal
 
@@ -41,3 +41,7 @@ returns-clause-reads g c =
 pub returns-clause-faults : goal.returns-clause-faults
 returns-clause-faults g c =
     subst (λ (p : Paged g.row.D.Denot). g.D.Device.fault_count p.dev ≡ g.D.Device.fault_count c.args.dev) (sym c.over.ensures) c.in-Ok.ensures.cause.kept
+
+pub returns-clause-room : goal.returns-clause-room
+returns-clause-room g c =
+    subst (λ (p : Paged g.row.D.Denot). cache_room p ≡ c.args.room) (sym c.over.ensures) c.in-Ok.ensures.room

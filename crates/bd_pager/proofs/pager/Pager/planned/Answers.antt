@@ -1,14 +1,19 @@
-use Rattle.std.proofs.Common.{◌≡◌, ℕ, ◌+◌, ◌^◌, ◌<◌, ◌++◌, List, Option, IfSome, length, map, refl, sym, ap, subst, ◌∙◌}
+use Rattle.std.proofs.Common.{◌≡◌, ℕ, ◌+◌, ◌^◌, ◌<◌, ◌++◌, List, Option, IfSome, Err, inl, inr, length, map, refl, sym, ap, subst, ◌∙◌}
 use Rattle.std.specs.Prelude.{SomeIff}
 use Rattle.std.specs.Option.{option_map}
+use Rattle.bd_message.specs.KeyMaps.{NeverWorn}
+use Rattle.bd_message.proofs.Causes.{cause_after}
+use Rattle.bd_counts.proofs.Causes.{fault_wider}
 use Rattle.bd_device.specs.Blocks.{Image}
 use Rattle.bd_node.specs.declared.node.Node.{Node}
 use Rattle.bd_node.specs.Shape.{IsShape}
+use Rattle.bd_node.specs.Steps.{IsWornBy}
 use Rattle.bd_node.specs.Tables.{Table, IsKept, IsTable}
+use Rattle.bd_pager.specs.Causes.{is_bad_to_commit}
 use Rattle.bd_pager.specs.declared.stepping.Put.{Put}
 use Rattle.bd_pager.specs.Committing.{IsNewRoot}
-use Rattle.bd_pager.specs.Pagers.{Paged, spots_of, table_of}
-use Rattle.bd_pager.specs.Places.{Spots}
+use Rattle.bd_pager.specs.Pagers.{Paged, spots_of, table_of, is_known}
+use Rattle.bd_pager.specs.Places.{Spots, IsBadSpot}
 use Rattle.bd_pager.specs.Stepping.{held, change_of, put_at, made_changes, given_changes}
 use Rattle.bd_pager.proofs.StepsLemmas.{fits_if, reads_after, puts_given, puts_shape, unput_kept}
 use Rattle.bd_pager.proofs.pager.Pager.planned.Goals as goal
@@ -36,6 +41,18 @@ root_after-requires-clause-there g c = λ none.
 
 pub returns-in-Err-root_after-clause-left : goal.returns-in-Err-root_after-clause-left
 returns-in-Err-root_after-clause-left g c = reads_after g.D.Device c.args.self.now c.recounted.new.self c.root_after.new.self c.in-Ok.ensures.left c.in-Err-root_after.ensures.left
+
+pub returns-in-Err-root_after-clause-cause : goal.returns-in-Err-root_after-clause-cause
+returns-in-Err-root_after-clause-cause g c =
+    let D = g.D.Device in
+    let old : Paged g.row.D.Denot = c.args.self.now in
+    let mid : Paged g.row.D.Denot = c.recounted.new.self in
+    let new : Paged g.row.D.Denot = c.root_after.new.self in
+    let step = c.args.step in
+    let bad : ℕ → Type 0 = λ b. is_known D new → IsBadSpot (D.contents new.dev) (spots_of new step.root) b in
+    cause_after (D.fault_count old.dev) (D.fault_count mid.dev) (D.fault_count new.dev) (D.last_failed new.dev) (is_bad_to_commit D new step) (IsWornBy (table_of old) step) (Err c.in-Err-root_after.fault) c.in-Ok.ensures.cause.kept
+    (fault_wider (D.fault_count mid.dev) (D.fault_count new.dev) (D.last_failed new.dev) bad (is_bad_to_commit D new step) NeverWorn (IsWornBy (table_of old) step)
+    (λ b h known. inl (step.root, inr refl, h known)) (λ k never. absurd never) c.in-Err-root_after.fault c.in-Err-root_after.ensures.cause)
 
 pub returns-clause-left : goal.returns-clause-left
 returns-clause-left g c = reads_after g.D.Device c.args.self.now c.recounted.new.self c.root_after.new.self c.in-Ok.ensures.left c.in-Ok-root_after.ensures.left

@@ -61,11 +61,11 @@ invariant_of-self-2 g c =
     let left : OnlyReadsOf D old p = subst (λ (x : Paged g.row.D.Denot). OnlyReadsOf D old x) (sym c.self.view_is) c.in-Ok.ensures.left in
     let new = c.put_kept.new in
     let e = c.in-Ok-put_kept.ensures in
-    let made = read_made D old p c.args.push c.in-Ok.puts.items new.spots.entries c.self.invariant.0 c.requires.push left c.in-Ok.ensures.plan e.spots c.waiting_in-self-inside.result new.cache c.waiting_in-self-inside.ensures e.cache new.usage.spare e.spare in
+    let made = read_made D old p c.args.push c.in-Ok.puts.items new.spots.entries c.self.invariant.0 c.requires.push left c.in-Ok.ensures.plan e.spots c.waiting_in-self-inside.result new.cache c.waiting_in-self-inside.ensures e.cache c.put_kept.ensures.room new.usage.spare e.spare in
     let push = c.args.push in (
       made.0,
       e.tallied i.next (read_low D old p push c.in-Ok.puts.items new.spots.entries c.self.invariant.0 c.requires.push left c.in-Ok.ensures.plan) c.self.invariant.1,
-      read_tested D old p push c.in-Ok.puts.items new.spots.entries c.self.invariant.0 c.requires.push left c.in-Ok.ensures.plan e.spots c.waiting_in-self-inside.result new.cache c.waiting_in-self-inside.ensures e.cache
+      read_tested D old p push c.in-Ok.puts.items new.spots.entries c.self.invariant.0 c.requires.push left c.in-Ok.ensures.plan e.spots c.waiting_in-self-inside.result new.cache c.waiting_in-self-inside.ensures e.cache c.put_kept.ensures.room
           i.reader.tested c.forget-2.new.self (λ id on. c.forget.ensures.others id (c.forget-2.ensures.others id on))
           (λ on. true≢false (sym (c.forget-2.ensures.others push.parent on) ∙ c.forget.ensures.gone)) (λ on. true≢false (sym on ∙ c.forget-2.ensures.gone)) c.self.invariant.2,
     )
@@ -79,7 +79,7 @@ returns-clause-table g c =
     let left : OnlyReadsOf D old p = subst (λ (x : Paged g.row.D.Denot). OnlyReadsOf D old x) (sym c.self.view_is) c.in-Ok.ensures.left in
     let new = c.put_kept.new in
     let e = c.in-Ok-put_kept.ensures in
-    let made = read_made D old p c.args.push c.in-Ok.puts.items new.spots.entries c.self.invariant.0 c.requires.push left c.in-Ok.ensures.plan e.spots c.waiting_in-self-inside.result new.cache c.waiting_in-self-inside.ensures e.cache new.usage.spare e.spare in
+    let made = read_made D old p c.args.push c.in-Ok.puts.items new.spots.entries c.self.invariant.0 c.requires.push left c.in-Ok.ensures.plan e.spots c.waiting_in-self-inside.result new.cache c.waiting_in-self-inside.ensures e.cache c.put_kept.ensures.room new.usage.spare e.spare in
     made.1.table
 
 pub returns-clause-committed : goal.returns-clause-committed
@@ -91,7 +91,7 @@ returns-clause-committed g c =
     let left : OnlyReadsOf D old p = subst (λ (x : Paged g.row.D.Denot). OnlyReadsOf D old x) (sym c.self.view_is) c.in-Ok.ensures.left in
     let new = c.put_kept.new in
     let e = c.in-Ok-put_kept.ensures in
-    let made = read_made D old p c.args.push c.in-Ok.puts.items new.spots.entries c.self.invariant.0 c.requires.push left c.in-Ok.ensures.plan e.spots c.waiting_in-self-inside.result new.cache c.waiting_in-self-inside.ensures e.cache new.usage.spare e.spare in
+    let made = read_made D old p c.args.push c.in-Ok.puts.items new.spots.entries c.self.invariant.0 c.requires.push left c.in-Ok.ensures.plan e.spots c.waiting_in-self-inside.result new.cache c.waiting_in-self-inside.ensures e.cache c.put_kept.ensures.room new.usage.spare e.spare in
     made.1.committed
 
 pub returns-clause-stays : goal.returns-clause-stays
@@ -103,5 +103,5 @@ returns-clause-stays g c =
     let left : OnlyReadsOf D old p = subst (λ (x : Paged g.row.D.Denot). OnlyReadsOf D old x) (sym c.self.view_is) c.in-Ok.ensures.left in
     let new = c.put_kept.new in
     let e = c.in-Ok-put_kept.ensures in
-    let made = read_made D old p c.args.push c.in-Ok.puts.items new.spots.entries c.self.invariant.0 c.requires.push left c.in-Ok.ensures.plan e.spots c.waiting_in-self-inside.result new.cache c.waiting_in-self-inside.ensures e.cache new.usage.spare e.spare in
+    let made = read_made D old p c.args.push c.in-Ok.puts.items new.spots.entries c.self.invariant.0 c.requires.push left c.in-Ok.ensures.plan e.spots c.waiting_in-self-inside.result new.cache c.waiting_in-self-inside.ensures e.cache c.put_kept.ensures.room new.usage.spare e.spare in
     made.1.stays

@@ -1,15 +1,16 @@
-use Rattle.std.proofs.Common.{◌≡◌, ℕ, List, None, Some, OnOk, nat_eq, sym, subst}
+use Rattle.std.proofs.Common.{◌≡◌, None, Some, OnOk, nat_eq, sym, subst}
 use Rattle.std.specs.Map.{lookup}
 use Rattle.std.proofs.lemmas.Result.{on_err_weaker}
+use Rattle.bd_message.specs.KeyMaps.{HasMapCause, NeverWorn}
 use Rattle.bd_node.specs.declared.node.Node.{Node}
 use Rattle.bd_node.specs.declared.push.Push.{Push}
 use Rattle.bd_node.specs.Pushes.{IsPush, CanPush, HasPushed, IsPushed}
 use Rattle.bd_node.specs.Tables.{Table, IsSound}
+use Rattle.bd_pager.specs.Causes.{is_bad_to_push}
 use Rattle.bd_pager.specs.Counting.{IsTallied}
 use Rattle.bd_pager.specs.Pagers.{Paged, spots_of, table_of, nodes_of, is_known, seen}
 use Rattle.bd_pager.specs.Places.{Spots}
 use Rattle.bd_pager.specs.Testing.{AreTested}
-use Rattle.bd_pager.specs.declared.place.Spot.{Spot}
 use Rattle.bd_pager.proofs.PushedLemmas.{HasMadePush, made_in_place, given_back, can_after, committed_before, stays_before, place_root, place_paged, place_made, place_tested, spots_tallied}
 use Rattle.bd_pager.proofs.StepsLemmas.{OnlyReadsOf, reordered, unchanged, reads_after}
 use Rattle.bd_pager.proofs.pager.Pager.push_down.Goals as goal
@@ -100,6 +101,19 @@ returns-in-Ok-Some-clause-err g c =
     let same : spots_of p ≡ spots_of q = λ j id. sym (back.1 id) j in
     let left : OnlyReadsOf D old q = subst (λ (x : Paged g.row.D.Denot). OnlyReadsOf D x q) c.self.view_is (unchanged D p entries same) in
     on_err_weaker c.push_copies.result (λ reads. reads_after D old q c.push_copies.new.self left reads) c.push_copies.ensures.err
+
+pub returns-in-Ok-Some-clause-cause : goal.returns-in-Ok-Some-clause-cause
+returns-in-Ok-Some-clause-cause g c =
+    let D = g.D.Device in
+    let i = c.self.inside in
+    let old : Paged g.row.D.Denot = c.args.self.now in
+    let p : Paged g.row.D.Denot = seen i.reader i.saved i.at.items i.usage.spare i.root i.size i.next i.visits i.written in
+    let entries = c.push_in_place.new.spots.entries in
+    let q : Paged g.row.D.Denot = record p { spots = entries } in
+    let back = given_back c.args.push (spots_of p) (spots_of q) c.in-Ok-Some.field-0 c.in-Ok-Some.push c.in-Ok-Some.field-0-is c.in-Ok-Some.ensures.ok in
+    let new : Paged g.row.D.Denot = c.push_copies.new.self in
+    subst (λ (x : Paged g.row.D.Denot). HasMapCause (D.fault_count x.dev) (D.fault_count new.dev) (D.last_failed new.dev) (is_bad_to_push D new c.args.push) NeverWorn c.push_copies.result) c.self.view_is
+    (subst (λ (x : Push). HasMapCause (D.fault_count p.dev) (D.fault_count new.dev) (D.last_failed new.dev) (is_bad_to_push D new x) NeverWorn c.push_copies.result) back.0 c.push_copies.ensures.cause)
 
 pub invariant_of-self-in-Err : goal.invariant_of-self-in-Err
 invariant_of-self-in-Err g c =

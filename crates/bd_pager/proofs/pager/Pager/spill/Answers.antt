@@ -1,11 +1,12 @@
 use Rattle.std.proofs.Common.{◌≡◌, ◌≤◌, Bool, List, None, length, min, refl, sym, ap, subst, ◌∙◌, arith, inl, inr, false}
+use Rattle.std.specs.Prelude.{is_err}
 use Rattle.std.proofs.lemmas.Result.{on_ok_weaker}
 use Rattle.bd_slots.specs.Layout.{image_blocks}
 use Rattle.bd_device.specs.Calls.{faults_after}
 use Rattle.bd_device.specs.Device.{FailsLast}
 use Rattle.bd_tails.specs.Tails.{AreTails}
 use Rattle.bd_pager.specs.Counting.{memory_of, AreUnused}
-use Rattle.bd_pager.specs.Moving.{AreEarlier, Spills}
+use Rattle.bd_pager.specs.Moving.{AreEarlier, IsDue, Spills, WritesOnly}
 use Rattle.bd_pager.specs.Pagers.{Paged, spots_of, IsPaged, seen}
 use Rattle.bd_pager.specs.Places.{spots_in, AreCached}
 use Rattle.bd_pager.proofs.MovingLemmas.{none_free}
@@ -54,7 +55,8 @@ returns g c =
     let tallied = w.tallied i.next (paged_below (D.contents i.reader.dev) p c.self.invariant.0) c.self.invariant.1 in
     record {
       spills = subst (λ (x : Paged g.row.D.Denot). Spills D x (q r.is_lent v.spare)) c.self.view_is
-          (record { moves = w.moves; bad = spilled_bad g.D.Device i.usage.spare i.root i.reader.dev r.dev (spots_in i.reader.spots) (spots_in r.spots) w.moves c.self.invariant.0.placed; rest = ap (λ (b : Bool). q b v.spare) w.lent ∙ ap (λ (l : List Bool). q i.reader.is_lent l) w.spare });
+          (record { moves = w.moves; bad = spilled_bad g.D.Device i.usage.spare i.root i.reader.dev r.dev (spots_in i.reader.spots) (spots_in r.spots) w.moves c.self.invariant.0.placed; room = w.cache_room; rest = ap (λ (b : Bool). q b v.spare) w.lent ∙ ap (λ (l : List Bool). q i.reader.is_lent l) w.spare });
+      due = subst (λ (x : Paged g.row.D.Denot). WritesOnly D (IsDue x.root (is_err c.write_early.result) (spots_of x) (spots_in r.spots)) x.dev r.dev) c.self.view_is w.due;
       written = refl;
       few = on_ok_weaker c.write_early.result (λ few. elim few [
         | inl le ↦ inl (omega (arith, le, tallied.counted.in_memory))

@@ -19,6 +19,7 @@ invariant_of-self g c =
         slots = was.slots;
         stored = was.stored;
         saved = was.saved;
+        entries = was.entries;
         tails = λ _. subst (λ (p : Paged g.row.D.Denot). AreTails (g.D.Device.contents p.dev) p.tails) (sym c.self.view_is) c.requires.tails;
         ready = was.ready;
       },

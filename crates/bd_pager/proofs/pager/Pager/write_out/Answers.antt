@@ -88,7 +88,7 @@ returns-in-Ok-write_all-clause-spills g c =
     let p : Paged g.row.D.Denot = seen i.reader i.saved i.at.items i.usage.spare i.root i.size i.next i.visits i.written in
     let q : Bool → List Bool → Paged g.row.D.Denot = λ lent spare. record p { dev = r.dev; spots = r.spots.entries; cache = r.cache; tails = r.tails; is_lent = lent; spare = spare; written = Some c.in-Ok-write_all.written } in
     subst (λ (x : Paged g.row.D.Denot). Spills g.D.Device x (q r.is_lent v.spare)) c.self.view_is
-    (record { moves = w.moves; bad = spilled_bad g.D.Device i.usage.spare i.root i.reader.dev r.dev (spots_in i.reader.spots) (spots_in r.spots) w.moves c.self.invariant.0.placed; rest = ap (λ (b : Bool). q b v.spare) w.lent ∙ ap (λ (l : List Bool). q i.reader.is_lent l) w.spare })
+    (record { moves = w.moves; bad = spilled_bad g.D.Device i.usage.spare i.root i.reader.dev r.dev (spots_in i.reader.spots) (spots_in r.spots) w.moves c.self.invariant.0.placed; room = w.cache_room; rest = ap (λ (b : Bool). q b v.spare) w.lent ∙ ap (λ (l : List Bool). q i.reader.is_lent l) w.spare })
 
 pub returns-in-Err-clause-spills : goal.returns-in-Err-clause-spills
 returns-in-Err-clause-spills g c =
@@ -99,7 +99,7 @@ returns-in-Err-clause-spills g c =
     let p : Paged g.row.D.Denot = seen i.reader i.saved i.at.items i.usage.spare i.root i.size i.next i.visits i.written in
     let q : Bool → List Bool → Paged g.row.D.Denot = λ lent spare. record p { dev = r.dev; spots = r.spots.entries; cache = r.cache; tails = r.tails; is_lent = lent; spare = spare; written = None } in
     subst (λ (x : Paged g.row.D.Denot). Spills g.D.Device x (q r.is_lent v.spare)) c.self.view_is
-    (record { moves = w.moves; bad = spilled_bad g.D.Device i.usage.spare i.root i.reader.dev r.dev (spots_in i.reader.spots) (spots_in r.spots) w.moves c.self.invariant.0.placed; rest = ap (λ (b : Bool). q b v.spare) w.lent ∙ ap (λ (l : List Bool). q i.reader.is_lent l) w.spare })
+    (record { moves = w.moves; bad = spilled_bad g.D.Device i.usage.spare i.root i.reader.dev r.dev (spots_in i.reader.spots) (spots_in r.spots) w.moves c.self.invariant.0.placed; room = w.cache_room; rest = ap (λ (b : Bool). q b v.spare) w.lent ∙ ap (λ (l : List Bool). q i.reader.is_lent l) w.spare })
 
 pub returns-in-Ok-write_all-clause-written : goal.returns-in-Ok-write_all-clause-written
 returns-in-Ok-write_all-clause-written g c =

@@ -2,8 +2,8 @@ use Rattle.std.proofs.Common.{refl, ◌∙◌}
 use Rattle.bd_pager.proofs.FreshLemmas.{fresh_spots}
 use Rattle.bd_pager.proofs.parts.Parts.fresh.Goals as goal
 
-pub returns : goal.returns
-returns c = record {
+pub returns-clause-fresh : goal.returns-clause-fresh
+returns-clause-fresh c = record {
   spots = fresh_spots c.new-spots.result c.insert.new.self _ c.in_ok-node.node c.new-spots.ensures.empty c.in_ok-insert.ensures.updates refl refl refl (c.in_ok-node.ensures.ok ∙ c.in_ok-childless_root.ensures);
   root = refl;
   size = refl;
