@@ -20,7 +20,7 @@ use Rattle.bd_image.specs.Damage.{IsBadAt}
 use Rattle.bd_image.specs.Damage.IsBadAt.{bad_super, bad_table, bad_node}
 use Rattle.bd_checkpoint.specs.Resuming.{IsBadUnder}
 use Rattle.bd_checkpoint.specs.Recovering.{OnlySettles, HasSettled, FailsFirst, IsBadIn}
-use Rattle.bd_checkpoint.proofs.Entries.{entry_found}
+use Rattle.bd_table.proofs.EntryLemmas.{entry_found}
 
 -- ---- what stays
 

@@ -5,7 +5,6 @@ pub mod Records
 pub mod Spare
 pub mod Resumed
 pub mod Handed
-pub mod Entries
 pub mod Slotted
 pub mod Opened
 pub mod Replaying

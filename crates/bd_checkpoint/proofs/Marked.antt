@@ -20,7 +20,7 @@ use Rattle.bd_pager.specs.Moving.{Spills}
 use Rattle.bd_pager.specs.WritingOut.{IsWrittenOut}
 use Rattle.bd_pager.specs.Slots.{IsSpare}
 use Rattle.bd_pager.specs.Places.{Spots, IsBadSpot}
-use Rattle.bd_pager.specs.Pagers.{Paged, spots_of, nodes_of, table_at, touched_at, table_of, is_saved, is_changed, is_known, IsEntryOf, AreEntriesOf, IsReady, saved_as}
+use Rattle.bd_pager.specs.Pagers.{Paged, cache_room, spots_of, nodes_of, table_at, touched_at, table_of, is_saved, is_changed, is_known, IsEntryOf, AreEntriesOf, IsReady, saved_as}
 use Rattle.bd_pager.proofs.CountingLemmas.{held_unchanged}
 use Rattle.bd_pager.proofs.FlagLemmas.{taken_held, entry_slot}
 use Rattle.bd_pager.proofs.SpilledLemmas.{spilled_table}
@@ -71,6 +71,7 @@ module _ {D : Type 0} (g : Ghosts D) (old mid last : Paged D) (spills : Spills g
     known = λ was. survives.known (spills.moves.known was);
     nodes = λ was. survives.nodes ∙ (λ i id. spills.moves.nodes was id i);
     bad = λ was id b h. spills.bad was id b (survives.bad id b h);
+    room = ap (λ (x : Paged D). cache_room x) survives.rest ∙ spills.room;
   }
 
   abbrev with_device : Paged D → Paged D
@@ -132,6 +133,7 @@ module _ {D : Type 0} (g : Ghosts D) (old mid last : Paged D) (spills : Spills g
         known = λ was. subst (λ (x : Paged D). is_known g x) (sym marked) (keeps.known was);
         nodes = λ was. ap (λ (x : Paged D). nodes_of g x) marked ∙ keeps.nodes was;
         bad = λ was id b h. keeps.bad was id b (subst (λ (x : Paged D). IsBadSpot (g.contents x.dev) (spots_of x id) b) marked h);
+        room = ap (λ (x : Paged D). cache_room x) marked ∙ keeps.room;
       };
       table = table;
       entries = entries;

@@ -29,11 +29,12 @@ use Rattle.bd_pager.specs.Pagers.{Paged, spots_of, table_at, table_of, IsKnownOv
 use Rattle.bd_pager.specs.Entries.{saved_spot}
 use Rattle.bd_pager.specs.Opened.{root_spot, IsOpened}
 use Rattle.bd_pager.proofs.OpenedLemmas.{search_id, slot_within}
-use Rattle.bd_image.specs.Stored.{entry_of, IsNodeAt, HoldsNodes}
+use Rattle.bd_table.specs.Entries.{entry_of}
+use Rattle.bd_image.specs.Stored.{IsNodeAt, HoldsNodes}
 use Rattle.bd_image.specs.Damage.{IsBadAt}
 use Rattle.bd_image.specs.Damage.IsBadAt.{bad_node}
 use Rattle.bd_checkpoint.specs.Recovering.{AreStored}
-use Rattle.bd_checkpoint.proofs.Entries.{entry_found, no_entry}
+use Rattle.bd_table.proofs.EntryLemmas.{entry_found, no_entry}
 use Rattle.bd_checkpoint.proofs.Slotted.{IsSpotOf, HasSpot, nodes_held, table_is}
 
 -- images and nodes are of each other

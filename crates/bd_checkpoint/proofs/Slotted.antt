@@ -18,7 +18,8 @@ use Rattle.bd_tails.specs.Tails.{slot_bytes}
 use Rattle.bd_format.specs.Slots.{HasNode}
 use Rattle.bd_pager.specs.Places.{Spots, refs_in, level_in, node_at, node_of, nodes_at}
 use Rattle.bd_pager.specs.Pagers.{table_at}
-use Rattle.bd_image.specs.Stored.{entry_of, IsNodeAt, HoldsNodes, refs_in as entry_refs, level_in as entry_level, table_of as stored_table}
+use Rattle.bd_table.specs.Entries.{entry_of}
+use Rattle.bd_image.specs.Stored.{IsNodeAt, HoldsNodes, refs_in as entry_refs, level_in as entry_level, table_of as stored_table}
 use Rattle.bd_checkpoint.specs.Kept.{AreOfTree}
 
 -- a spot is that of an entry, whose slot has its node

@@ -21,10 +21,10 @@ use Rattle.bd_pager.specs.Places.{Spots, node_at, nodes_at}
 use Rattle.bd_pager.specs.Pagers.{Paged, spots_of, nodes_of, table_at, touched_at, table_of, IsRightPlace, IsKnownOver, is_known, IsInSlot, IsEntryOf, IsReady}
 use Rattle.bd_pager.specs.WritingOut.{IsWrittenOut}
 use Rattle.bd_pager.proofs.OpenedLemmas.{search_id}
-use Rattle.bd_image.specs.Stored.{entry_of}
+use Rattle.bd_table.specs.Entries.{entry_of}
 use Rattle.bd_checkpoint.specs.Following.{HasTableOf, AreWritten}
 use Rattle.bd_checkpoint.specs.Kept.{AreOfTree}
-use Rattle.bd_checkpoint.proofs.Entries.{entry_found, no_entry}
+use Rattle.bd_table.proofs.EntryLemmas.{entry_found, no_entry}
 use Rattle.bd_checkpoint.proofs.Slotted.{IsSpotOf, HasSpot, nodes_held, of_tree}
 
 -- what bytes encode, they are the image of

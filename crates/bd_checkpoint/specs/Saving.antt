@@ -1,5 +1,5 @@
 -- What a checkpoint leaves of a pager, and why none is made.
-use Rattle.std.specs.Prelude.{◌≡◌, ◌+◌, ◌^◌, ◌≤◌, ◌⊎◌, false, length, None}
+use Rattle.std.specs.Prelude.{◌≡◌, ◌+◌, ◌^◌, ◌≤◌, ◌⊎◌, List, Bool, false, length, None}
 use Rattle.bd_io.specs.Cause.{next_count}
 use Rattle.bd_device.specs.Changes.{StaysBut}
 use Rattle.bd_device.specs.Device.{left_now, LastFailed}
@@ -12,20 +12,23 @@ use Rattle.bd_table.specs.Tables.{AreFreeSlots, IsTableAt}
 use Rattle.bd_super.specs.declared.superblock.Super.{Super}
 use Rattle.bd_log.specs.Logs.{LogState}
 use Rattle.bd_pager.specs.Places.{NoneTurnsBad}
-use Rattle.bd_pager.specs.Pagers.{Paged, spots_of, nodes_of, table_of, is_known, AreEntriesOf}
+use Rattle.bd_pager.specs.Pagers.{Paged, cache_room, spots_of, nodes_of, table_of, is_known, AreEntriesOf}
+use Rattle.bd_pager.specs.Slots.{IsSpare}
 use Rattle.bd_checkpoint.specs.Kept.{Saved, slots_held, IsOpenOn, AllAsBefore}
 use Rattle.bd_checkpoint.specs.Recovering.{saved_of}
 use Rattle.bd_checkpoint.specs.Surviving.{IsLowOrSpare}
 
 -- ---- what is left
 
--- slots stay but for spare ones; known nodes stay known, and the same, and then no block becomes bad
+-- slots stay but for spare ones; known nodes stay known, and the same, and then no block becomes
+-- bad; the cache keeps its room
 pub record KeepsNodes {D : Type 0} (g : Ghosts D) (old new : Paged D) : Type 0 where
   pub elsewhere : StaysBut (IsLowOrSpare old.spare) (g.contents old.dev) (g.contents new.dev)
   pub known : is_known g old → is_known g new
   pub nodes : is_known g old → nodes_of g new ≡ nodes_of g old
   pub bad : is_known g old
       → NoneTurnsBad (g.contents old.dev) (spots_of old) (g.contents new.dev) (spots_of new)
+  pub room : cache_room new ≡ cache_room old
 
 -- no checkpoint was made: the last one stays, and so do the nodes and their table
 pub record StaysUnsaved {D : Type 0} (g : Ghosts D) (old new : Paged D) : Type 0 where
@@ -63,19 +66,21 @@ pub record IsSaved {D : Type 0} (g : Ghosts D) (old new : Paged D) : Type 0 wher
 
 -- ---- faults
 
--- no write or barrier failed: what was known of the device is known, and an image that a crash now
--- leaves stands for what one of before stood for
+-- no write or barrier failed: what was known of the device is known, no more was written than these
+-- spare slots, and an image that a crash now leaves stands for what one of before stood for
 pub record GoesOn {D : Type 0} (g : Ghosts D) (old new : D) (live : Super) (saved : Saved)
-    (log : LogState) : Type 0 where
+    (log : LogState) (spare : List Bool) : Type 0 where
   pub known : IsOpenOn g new live saved log
+  pub slots : StaysBut (IsSpare spare) (g.contents old) (g.contents new)
   pub kept : AllAsBefore (left_now g old) (left_now g new)
   pub write_faults : g.write_fault_count new ≡ g.write_fault_count old
 
 -- a write or a barrier failed, or it goes on
-abbrev pub IsStoppedOrGoesOn : {D : Type 0} → Ghosts D → D → D → Super → Saved → LogState → Type 0
-IsStoppedOrGoesOn g old new live saved log =
+abbrev pub IsStoppedOrGoesOn : {D : Type 0} → Ghosts D → D → D → Super → Saved → LogState
+    → List Bool → Type 0
+IsStoppedOrGoesOn g old new live saved log spare =
     (g.write_fault_count new ≡ next_count (g.write_fault_count old))
-    ⊎ GoesOn g old new live saved log
+    ⊎ GoesOn g old new live saved log spare
 
 -- the last call of the device failed, and no other; or else nothing was done with the device: the
 -- live superblock's epoch is the last one, or there is no memory

@@ -3,11 +3,12 @@
 ghost use Rattle.std.specs.Prelude.{◌≡◌, ◌+◌, ◌^◌, ◌≤◌, false, Err, IfErr, OnOk, OnErr};
 ghost use Rattle.bd_model.specs.Tree.{Tree};
 ghost use Rattle.bd_slots.specs.Layout.{table_length};
+ghost use Rattle.bd_device.specs.Changes.{StaysBut};
 ghost use Rattle.bd_device.specs.Device.{left_now, Goes, Stays};
 ghost use Rattle.bd_device.specs.Moments.{IsOnly};
 ghost use Rattle.bd_node.specs.Tables.{kept_count};
 ghost use Rattle.bd_table.specs.Tables.{AreFreeSlots};
-ghost use Rattle.bd_super.specs.Superblocks.{log_block};
+ghost use Rattle.bd_super.specs.Superblocks.{log_block, other};
 ghost use Rattle.bd_log.specs.Logs.{fresh_log};
 ghost use Rattle.bd_pager.specs.Counting.{changed_of, free_of};
 ghost use Rattle.bd_pager.specs.Pagers.{nodes_of, table_of, is_known};
@@ -17,6 +18,7 @@ ghost use Rattle.bd_checkpoint.specs.Following.{super_after};
 ghost use Rattle.bd_checkpoint.specs.Kept.{slots_held, IsOpenOn, AllStandFor, AreOfTree};
 ghost use Rattle.bd_checkpoint.specs.Recovering.{saved_of};
 ghost use Rattle.bd_checkpoint.specs.Saving.{IsCheckpointCause, IsSaved, IsStoppedOrGoesOn, StaysUnsaved};
+ghost use Rattle.bd_checkpoint.specs.Surviving.{IsOfHalfOrSpare};
 
 use crate::following::next_super;
 use crate::lending::publish_by;
@@ -37,6 +39,9 @@ use bd_table::laws::tables_are_read_again;
 /// for the tree of the nodes and the count; one that a crash after it leaves, once it is Ok, is
 /// what reads give, and stands for the latter. Then this checkpoint is known of the device, and no
 /// node is changed.
+///
+/// It writes to those slots, and to the three blocks of the other half that publishing writes: its
+/// superblock's and its log's first; where it fails and no write or barrier did, to the slots alone.
 ///
 /// A fault leaves the nodes, the log, the live superblock and the last checkpoint. Unless a write
 /// or a barrier of the device failed, what was known of it stays known. `DeviceFault` comes only
@@ -81,12 +86,14 @@ pub fn checkpoint<D: Device>(
     ensures same_live { OnErr result (live.new ≡ live.old) }
     ensures same_log { OnErr result (log.new ≡ log.old) }
     ensures goes_on { OnErr result (IsStoppedOrGoesOn D.Device pager.old.dev pager.new.dev live.old
-        (saved_of pager.old) log.old) }
+        (saved_of pager.old) log.old pager.old.spare) }
     ensures cause { IfErr result
         (IsCheckpointCause D.Device pager.old.dev pager.new.dev live.old) }
     ensures worn { 2 ^ 64 ≤ live.old.epoch + 1
         → result ≡ Err (MapFault.Worn Counter.Epoch) }
     ensures later { D.fault_count pager.old.dev ≤ D.fault_count pager.new.dev }
+    ensures writes { StaysBut (IsOfHalfOrSpare (other live.old.half) pager.old.spare)
+        (D.contents pager.old.dev) (D.contents pager.new.dev) }
     ensures stays { Stays D.Device pager.old.dev pager.new.dev }
 {
     tables_are_read_again();

@@ -16,7 +16,7 @@ ghost use Rattle.bd_super.specs.Live.{NoneIsCommitted};
 ghost use Rattle.bd_super.specs.Published.{AreSettled};
 ghost use Rattle.bd_log.specs.Logs.{fresh_log};
 ghost use Rattle.bd_pager.specs.Counting.{changed_of, free_of};
-ghost use Rattle.bd_pager.specs.Pagers.{spots_of, nodes_of, table_of, is_known, AreEntriesOf};
+ghost use Rattle.bd_pager.specs.Pagers.{cache_room, spots_of, nodes_of, table_of, is_known, AreEntriesOf};
 ghost use Rattle.bd_image.specs.Fresh.{first_super, fresh_nodes};
 ghost use Rattle.bd_checkpoint.specs.Kept.{slots_held, IsOpenOn, AllStandFor, AreOfTree};
 ghost use Rattle.bd_checkpoint.specs.Formatting.{IsNew};
@@ -52,9 +52,9 @@ pub struct Formatted<D: Device> {
 /// no commands. It takes both superblocks back, writes the root's node and the table, and publishes
 /// the first superblock. Once it is Ok, an image that a crash after it leaves is what reads give,
 /// and stands for that tree and a count of 0; this checkpoint is known of the device, and no node
-/// is changed. At most `room` nodes that the pager reads will be kept. Where it fails, it returns
-/// the device, which may have no image any more. `DeviceFault` comes only where a call of the
-/// device failed, which is the last one then. It is never `Damaged`.
+/// is changed. At most `room` nodes will be cached, beside the root. Where it fails, it returns the
+/// device, which may have no image any more. `DeviceFault` comes only where a call of the device
+/// failed, which is the last one then. It is never `Damaged`.
 pub fn format<D: Device>(
     alloc: Global,
     mut dev: D,
@@ -87,6 +87,7 @@ pub fn format<D: Device>(
     ensures spare { IfOk result (λ f.
         AreFreeSlots slots (slots_held (saved_of f.pager)) f.pager.spare) }
     ensures lent { IfOk result (λ f. f.pager.is_lent ≡ false) }
+    ensures room { IfOk result (λ f. cache_room f.pager ≡ room) }
     ensures stays { IfOk result (λ f. Stays D.Device dev f.pager.dev) }
     ensures faults { IfOk result (λ f. D.fault_count f.pager.dev ≡ D.fault_count dev) }
 
@@ -134,6 +135,7 @@ fn new_pager<D: Device>(
         AreOfTree (nodes_of D.Device pager) (table_of pager) root_only) }
     ensures table { IfOk result (λ pager. HasGrown new_table root_messages (table_of pager)) }
     ensures new { IfOk result (IsNew slots dev) }
+    ensures room { IfOk result (λ pager. cache_room pager ≡ room) }
     ensures refused { IfErr result
         (λ refused. (refused.fault ≡ NoMemory) × (refused.device ≡ dev)) }
 {

@@ -6,12 +6,13 @@ ghost use Rattle.bd_model.specs.Tree.{Tree};
 ghost use Rattle.bd_slots.specs.Layout.{image_blocks};
 ghost use Rattle.bd_device.specs.Blocks.{Image};
 ghost use Rattle.bd_device.specs.Calls.{faults_after};
+ghost use Rattle.bd_device.specs.Changes.{StaysBut};
 ghost use Rattle.bd_device.specs.Device.{left_now, Goes, Stays, FailsLast};
 ghost use Rattle.bd_device.specs.Moments.{IsOnly};
 ghost use Rattle.bd_node.specs.Meaning.{Nodes};
 ghost use Rattle.bd_table.specs.declared.table.Table.{Table as StoredTable};
 ghost use Rattle.bd_super.specs.Superblocks.{IsSuper, log_block};
-ghost use Rattle.bd_super.specs.Published.{AreSettled, CanFollow, CountsWrites};
+ghost use Rattle.bd_super.specs.Published.{IsOfHalf, AreSettled, CanFollow, CountsWrites};
 ghost use Rattle.bd_super.specs.declared.superblock.Super.{Super as AnySuper};
 ghost use Rattle.bd_log.specs.Logs.{LogState, IsLogHalf, after_sync, fresh_log};
 ghost use Rattle.bd_image.specs.Standing.{IsOldOrNew};
@@ -84,6 +85,8 @@ pub fn publish_by<D: Device>(pager: &mut Pager<D>, s: &Super) -> Result<(), Fail
         (fresh_log (log_block s.now.half) s.now.epoch)) }
     ensures only { OnOk result
         (IsOnly (D.contents pager.new.dev) (left_now D.Device pager.new.dev)) }
+    ensures outside { StaysBut (IsOfHalf s.now.half)
+        (D.contents pager.old.dev) (D.contents pager.new.dev) }
     ensures stays { Stays D.Device pager.old.dev pager.new.dev }
     ensures cause { FailsLast D.Device pager.old.dev pager.new.dev result }
     ensures write_faults { CountsWrites D.Device pager.old.dev pager.new.dev result }

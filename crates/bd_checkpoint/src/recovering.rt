@@ -14,7 +14,7 @@ ghost use Rattle.bd_super.specs.Live.{IsLive};
 ghost use Rattle.bd_log.specs.Batches.{AreBatches};
 ghost use Rattle.bd_log.specs.Logs.{fresh_log};
 ghost use Rattle.bd_pager.specs.Opened.{IsOpened};
-ghost use Rattle.bd_pager.specs.Pagers.{is_known};
+ghost use Rattle.bd_pager.specs.Pagers.{cache_room, is_known};
 ghost use Rattle.bd_image.specs.Versions.{version_of};
 ghost use Rattle.bd_image.specs.ImageTree.{ImageStandsFor};
 ghost use Rattle.bd_image.specs.Damage.{placed_records};
@@ -52,7 +52,7 @@ pub struct Recovered<D: Device> {
 
 /// Starts from the image of a device. It makes one barrier, so that from then on a crash leaves
 /// what reads give, and reads the superblocks, the table, the root and the log. At most `room`
-/// nodes that the pager reads are kept. From an image that stands for a tree it starts unless the
+/// nodes are cached, beside the root. From an image that stands for a tree it starts unless the
 /// device fails or there is no memory: the commands then lead from the tree of the nodes to that
 /// one. Where it fails, it returns the device, and unless the barrier failed a crash leaves what
 /// reads give there too, of a device that has blocks. `DeviceFault` comes only where a call of the
@@ -66,6 +66,7 @@ pub fn recover<D: Device>(alloc: Global, dev: D, room: usize) -> Result<Recovere
         IsOnly (D.contents r.pager.dev) (left_now D.Device r.pager.dev)) }
     ensures opened { IfOk result (λ r.
         IsOpened (D.contents dev) r.live.slots r.live.table r.pager) }
+    ensures room { IfOk result (λ r. cache_room r.pager ≡ room) }
     ensures known { IsSome (D.contents dev) → IfOk result (λ r. is_known D.Device r.pager) }
     ensures stored { IfOk result (λ r.
         IfSome (D.contents dev) (AreStored D.Device r.pager)) }
@@ -134,6 +135,7 @@ fn open_start<D: Device>(
     ensures only { IfOk result (λ r.
         IsOnly (D.contents r.1.dev) (left_now D.Device r.1.dev)) }
     ensures opened { IfOk result (λ r. IsOpened (D.contents dev) r.0.slots r.0.table r.1) }
+    ensures room { IfOk result (λ r. cache_room r.1 ≡ room) }
     ensures known { IsSome (D.contents dev) → IfOk result (λ r. is_known D.Device r.1) }
     ensures reads { IfOk result (λ r. OnlyReads D.Device dev r.1.dev) }
     ensures settled { IfOk result (λ r. HasSettled D.Device dev r.1.dev) }

@@ -24,7 +24,7 @@ pub fn answer<M: Scan>(alloc: Global, m: &mut M, command: &Command) -> Result<Re
     ensures small { IfOk result IsReply }
     ensures left { IsLeft M.KeyMap m.old m.new }
     ensures cause { HasMapCause (M.fault_count m.old) (M.fault_count m.new)
-        (M.bad m.new) NeverWorn result }
+        (M.last_failed m.new) (M.bad m.new) NeverWorn result }
 {
     match command {
         Command::Read { path, off, len } => read(alloc, m, path, *off, *len),

@@ -25,8 +25,9 @@ pub fn flush<S: NodeStore>(tree: &mut Tree<S>, command: &Command) -> Result<bool
     ensures stays { Stays S.NodeStore tree.old.store tree.new.store }
     ensures rest { result ≢ Ok true → OnlyReads S.NodeStore tree.old.store tree.new.store }
     ensures cause { HasMapCause (S.fault_count tree.old.store) (S.fault_count tree.new.store)
-        (S.bad tree.new.store) (IsWornToFlush (AreKnown S.NodeStore tree.old.store)
-        (S.nodes tree.old.store) (S.table tree.old.store)) result }
+        (S.last_failed tree.new.store) (S.bad tree.new.store)
+        (IsWornToFlush (AreKnown S.NodeStore tree.old.store) (S.nodes tree.old.store)
+        (S.table tree.old.store)) result }
 
     // Where the nodes are known and sound.
     ensures step { OfSound S.NodeStore tree.old.store (result ≡ Ok true

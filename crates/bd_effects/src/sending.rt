@@ -27,7 +27,7 @@ pub fn append<S: NodeStore>(tree: &mut Tree<S>, list: &[Message]) -> Result<(), 
     ensures stays { Stays S.NodeStore tree.old.store tree.new.store }
     ensures err { OnErr result (OnlyReads S.NodeStore tree.old.store tree.new.store) }
     ensures cause { HasMapCause (S.fault_count tree.old.store) (S.fault_count tree.new.store)
-        (S.bad tree.new.store) NeverWorn result }
+        (S.last_failed tree.new.store) (S.bad tree.new.store) NeverWorn result }
 
     // Where the nodes are known and sound.
     ensures appended { OfSound S.NodeStore tree.old.store (OnOk result
@@ -55,7 +55,8 @@ pub fn graft<S: NodeStore>(
     ensures stays { Stays S.NodeStore tree.old.store tree.new.store }
     ensures err { OnErr result (OnlyReads S.NodeStore tree.old.store tree.new.store) }
     ensures cause { HasMapCause (S.fault_count tree.old.store) (S.fault_count tree.new.store)
-        (S.bad tree.new.store) (IsWornForGraft (S.table tree.old.store)) result }
+        (S.last_failed tree.new.store) (S.bad tree.new.store)
+        (IsWornForGraft (S.table tree.old.store)) result }
 
     // Where the nodes are known and sound.
     ensures made { OfSound S.NodeStore tree.old.store (OnOk result

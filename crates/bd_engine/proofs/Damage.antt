@@ -1,8 +1,8 @@
 -- Which blocks may be bad for an engine's nodes, and what shows it.
-use Rattle.std.proofs.Common.{◌≡◌, ℕ, ◌<◌, inl, inr, Bool, true, false, List, ◌++◌, length, get_or, Option, None, Some, IfSome, refl, sym, ap, subst, ◌∙◌, arith}
+use Rattle.std.proofs.Common.{◌≡◌, ℕ, suc, ◌<◌, inl, inr, Bool, true, false, List, [], ◌∷◌, ◌++◌, length, get_or, All, Option, None, Some, IfSome, refl, sym, ap, subst, ◌∙◌, arith}
 use Rattle.std.specs.Prelude.{◌≢◌, Contains, IsSome, slice_get, slice_index}
 use Rattle.std.proofs.lemmas.Bool.{cases_eq}
-use Rattle.std.proofs.lemmas.List.Elements.{Contains-append_right}
+use Rattle.std.proofs.lemmas.List.Elements.{Contains-append_right, All-from_recursion}
 use Rattle.std.proofs.lemmas.Option.{slice_get-get_or}
 use Rattle.bd_slots.specs.Layout.{slot_block}
 use Rattle.bd_slots.specs.Slots.{IsHeld}
@@ -10,12 +10,13 @@ use Rattle.bd_device.specs.Blocks.{Image}
 use Rattle.bd_device.specs.Changes.{SameBut, StaysBut}
 use Rattle.bd_device.specs.Device.{left_now}
 use Rattle.bd_device.specs.declared.device.Device.{Ghosts}
-use Rattle.bd_node.specs.declared.node.Node.{Node}
 use Rattle.bd_node.specs.Meaning.{Nodes}
 use Rattle.bd_node.specs.Tables.{Table, IsSound}
+use Rattle.bd_table.specs.Entries.{level_at}
 use Rattle.bd_table.specs.Image.{HoldsTable}
 use Rattle.bd_table.specs.Tables.{AreFreeSlots, IsTableAt, slots_of}
 use Rattle.bd_table.specs.declared.table.TableEntry.{TableEntry}
+use Rattle.bd_table.proofs.EntryLemmas.{entry_found, entry_stands}
 use Rattle.bd_super.specs.Live.{IsLive}
 use Rattle.bd_super.specs.declared.superblock.Super.{Super}
 use Rattle.bd_log.specs.Logs.{LogState}
@@ -23,16 +24,17 @@ use Rattle.bd_pager.specs.declared.place.Place.{Place}
 use Rattle.bd_pager.specs.declared.place.Place.TheVariants.{Memory, Slot}
 use Rattle.bd_pager.specs.declared.place.Spot.{Spot}
 use Rattle.bd_pager.specs.Entries.{saved_spot}
+use Rattle.bd_pager.specs.Damage.{HasGoodNode, IsFirstDamaged}
 use Rattle.bd_pager.specs.Keeping.{KeepsSaved}
 use Rattle.bd_pager.specs.Moving.{Spills}
 use Rattle.bd_pager.specs.Opened.{IsOpened}
 use Rattle.bd_pager.specs.Pagers.{Paged, spots_of, nodes_of, table_of, is_known, is_bad, AreEntriesOf, IsEntryOf, IsInSlot, IsPaged, IsPlaceIn, IsStoredAs}
 use Rattle.bd_pager.specs.Places.{IsBadPlace, IsBadSpot, NoneTurnsBad}
-use Rattle.bd_format.specs.Slots.{HasNode}
+use Rattle.bd_format.specs.Slots.{HasNode, HasNoGoodNode}
 use Rattle.bd_pager.specs.Slots.{IsSpare}
 use Rattle.bd_pager.proofs.FlagLemmas.{taken_held, entry_slot}
 use Rattle.bd_pager.proofs.OpenedLemmas.{search_id, slot_within}
-use Rattle.bd_image.specs.Damage.{IsBadAt, IsGoodNode}
+use Rattle.bd_image.specs.Damage.{IsBadAt, HasNoSoundNodes}
 use Rattle.bd_image.specs.Damage.IsBadAt.{bad_node, unsound_nodes}
 use Rattle.bd_image.specs.Stored.{table_of as stored_table}
 use Rattle.bd_image.specs.Used.{IsOfSlots}
@@ -41,7 +43,6 @@ use Rattle.bd_checkpoint.specs.Kept.{Saved, slots_held, StartsAs, IsOpen}
 use Rattle.bd_checkpoint.specs.Recovering.{saved_of, AreStored, IsBadIn}
 use Rattle.bd_checkpoint.specs.Saving.{IsSaved, StaysUnsaved}
 use Rattle.bd_checkpoint.specs.Surviving.{IsLow, IsLowOrSpare, SurvivesOn}
-use Rattle.bd_checkpoint.proofs.Entries.{entry_found}
 use Rattle.bd_checkpoint.proofs.Opened.{AreDecoded}
 use Rattle.bd_checkpoint.proofs.Slots.{stays_same, told_before}
 use Rattle.bd_checkpoint.proofs.Spare.{not_held}
@@ -229,7 +230,7 @@ module _ {D : Type 0} (image : Image) (live : Super) (p : Paged D) (is_live : Is
       let found = stored held in
       let e : TableEntry = found.1 in
       let among : Contains p.saved.entries e = (found.0, found.2, found.3) in
-      let none : (n : Node) → ¬ IsGoodNode image p.saved e n = (λ n good. bad.1 n (subst (λ (s : ℕ). HasNode image s level n) found.4.1 (subst (λ (l : ℕ). HasNode image e.slot l n) found.4.2 good.held))) in
+      let none : HasNoGoodNode image (level_at p.saved.entries) e.slot e.level = (λ n good. bad.1 n (subst (λ (s : ℕ). HasNode image s level n) found.4.1 (subst (λ (l : ℕ). HasNode image e.slot l n) found.4.2 good.held))) in
       subst (IsBadAt image) (ap slot_block found.4.1 ∙ sym bad.0)
       (bad_node live p.saved e (record { live = is_live; table = table; entry = entry_found p.saved.entries e table.0.entries.rising among }) none)
 
@@ -242,11 +243,29 @@ module _ {D : Type 0} (image : Image) (live : Super) (p : Paged D) (is_live : Is
   bad_spot_shown id b None there not bad = absurd bad
   bad_spot_shown id b (Some s) there not bad = bad_place_shown id s.level b s.place (paged.slots id s there) (paged.stored id s there) not bad
 
--- the first block of the image's table is bad where none of its nodes are sound
-unsound_shown : (image : Image) (live : Super) (saved : Saved) (b : ℕ) → IsLive image live → HoldsTable image live.slots live.table saved.table → saved.at ≡ live.table → b ≡ slot_block (slice_index saved.at 0) → ¬ HasSoundStored image saved.table → IsBadAt image b
-unsound_shown image live saved b is_live table at start none =
+-- the entry in the middle is among them
+middle_among : (front : List TableEntry) (e : TableEntry) (rest : List TableEntry) → Contains (front ++ e ∷ rest) e
+middle_among [] e rest = (0, omega arith, refl)
+middle_among (x ∷ front) e rest =
+    let later = middle_among front e rest in
+    (suc later.0, omega (arith, later.1), later.2)
+
+-- where none of the nodes that an image stores by its table are sound, the block that is damaged then
+-- is why it stands for no tree
+pub first_shown : (image : Image) (live : Super) (saved : Saved) (b : ℕ) → IsLive image live → HoldsTable image live.slots live.table saved.table → saved.at ≡ live.table → IsFirstDamaged (Some image) saved.table.entries saved.at b
+    → HasNoSoundNodes image saved.table → IsBadAt image b
+first_shown image live saved b is_live table at (inl (e, start, first)) none =
+    let entries : List TableEntry = saved.table.entries in
+    let among : Contains entries e = subst (λ (es : List TableEntry). Contains es e) (sym first.there) (middle_among first.front e first.rest) in
+    subst (IsBadAt image) (sym start)
+    (bad_node live saved.table e (record { live = is_live; table = table; entry = entry_found entries e table.0.entries.rising among }) first.bad)
+first_shown image live saved b is_live table at (inr (start, good)) none =
+    let entries : List TableEntry = saved.table.entries in
+    let each : All (HasGoodNode image entries) entries = All-from_recursion (HasGoodNode image entries) entries good in
     subst (IsBadAt image) (sym (start ∙ ap (λ (l : List ℕ). slot_block (slice_index l 0)) at))
-    (unsound_nodes live saved.table is_live table (λ nodes held sound. none (record { nodes = nodes; held = held; sound = sound })))
+    (unsound_nodes live saved.table is_live table
+    (λ e has. let stands = entry_stands entries e.id e has.entry in subst (HasGoodNode image entries) stands.2 (each stands.0 e stands.1))
+    none)
 
 -- where the nodes are no worse than the last checkpoint's, damage is of a block that is bad in what
 -- reads give
@@ -260,9 +279,10 @@ damage_at g (Some image) left count live p log told given stays paged h block ba
       | inl (id, spot) ↦
           let here : IsBadSpot (Some image) (spots_of p id) block = subst (λ (o : Option Image). IsBadSpot o (spots_of p id) block) told spot in
           bad_spot_shown image live p starts.live_is starts.table_is paged id block (spots_of p id) refl (no.good id block spot) here
-      | inr (start, unsound) ↦
+      | inr (first, unsound) ↦
           let if_sound : HasSoundStored image p.saved → IsSound (nodes_of g p) (table_of p) = subst (λ (o : Option Image). IfSome o (λ i. HasSoundStored i p.saved → IsSound (nodes_of g p) (table_of p))) told no.sound in
-          unsound_shown image live (saved_of p) block starts.live_is starts.table_is given.at start (λ stored. unsound (if_sound stored))
+          first_shown image live (saved_of p) block starts.live_is starts.table_is given.at (subst (λ (o : Option Image). IsFirstDamaged o p.saved.entries p.at block) told first)
+          (λ nodes held sound. unsound (if_sound (record { nodes = nodes; held = held; sound = sound })))
     ]
 
 pub damage_shown : {D : Type 0} (g : Ghosts D) (e : EngineState D) → IsStanding g e → e.stop ≡ None → IsPaged (g.contents e.pager.dev) e.pager → (0 < g.block_count e.pager.dev → IfSome (g.contents e.pager.dev) (left_now g e.pager.dev))

@@ -26,7 +26,7 @@ use Rattle.bd_shown.proofs.Alike.{read_shown}
 use Rattle.bd_shown.proofs.Kept.{kept_shown}
 use Rattle.bd_view.specs.Trees.{TreeView, IsAppended, IsGraftMade, IsWalked, HasAppended, HasGrafted}
 use Rattle.bd_recall.specs.Kept.{Findings}
-use Rattle.bd_engine.specs.Engines.{EngineState, seen, view_of, keys_of, HasSoundNodes, IsSoundOn, IsStanding, IsReadOn, OnlyNodesOn}
+use Rattle.bd_engine.specs.Engines.{EngineState, seen, view_of, keys_of, flushes_after, HasSoundNodes, IsSoundOn, IsStanding, IsReadOn, OnlyNodesOn}
 use Rattle.bd_engine.proofs.Damage.{no_worse_kept}
 use Rattle.bd_engine.proofs.Recalls.{sound_nodes, sound_same}
 
@@ -37,8 +37,8 @@ read_knows g p q r known =
     (subst (λ (s : Spots). IsKnownOver (g.contents p.dev) s) (sym r.spots) known)
 
 -- what holds between two calls, where one kept the last checkpoint
-pub kept_standing : {D : Type 0} (g : Ghosts D) (old : EngineState D) (p : Paged D) (recalled : Findings) (walk : Walk) → IsSince g p.dev → IsStanding g old → KeepsSaved g old.pager p → (HasSoundNodes g old.pager → HasSoundNodes g p) → IsStanding g (record old { pager = p; recalled = recalled; walk = walk })
-kept_standing g old p recalled walk earlier h k sound =
+pub kept_standing : {D : Type 0} (g : Ghosts D) (old : EngineState D) (p : Paged D) (recalled : Findings) (walk : Walk) (flushes : ℕ) → IsSince g p.dev → IsStanding g old → KeepsSaved g old.pager p → (HasSoundNodes g old.pager → HasSoundNodes g p) → IsStanding g (record old { pager = p; recalled = recalled; walk = walk; flushes = flushes })
+kept_standing g old p recalled walk flushes earlier h k sound =
     let same : saved_of old.pager ≡ saved_of p = λ i. record { at = sym k.at i; table = sym k.saved i } in
     record {
       fits = h.fits;
@@ -46,25 +46,26 @@ kept_standing g old p recalled walk earlier h k sound =
       slots = ap (λ (l : List Bool). length l) k.spare ∙ h.slots;
       table = subst (λ (a : List ℕ). IsTableAt old.live.slots a p.saved) (sym k.at) (subst (λ (t : StoredTable). IsTableAt old.live.slots old.pager.at t) (sym k.saved) h.table);
       unlent = k.lent h.unlent;
+      room = k.room ∙ h.room;
       records = h.records;
       going = λ on. subst (λ (s : Saved). IsOpenOn g p.dev old.live s old.log) same (open_after g old.pager.dev p.dev earlier k.device old.live (saved_of old.pager) old.log (h.going on));
       no_worse = λ on. no_worse_kept g old.pager p k sound (h.no_worse on);
     }
 
 -- what reads leave of an engine
-pub read_on : {D : Type 0} (g : Ghosts D) (old : EngineState D) (p : Paged D) (recalled : Findings) (walk : Walk) → walk ≡ old.walk → IsReadOf g old.pager p → (IsSoundOn g old → IsSoundOn g (seen p recalled old.log old.live old.stop walk)) → IsReadOn g old (seen p recalled old.log old.live old.stop walk)
-read_on g old p recalled walk same r sound = record {
+pub read_on : {D : Type 0} (g : Ghosts D) (old : EngineState D) (p : Paged D) (recalled : Findings) (walk : Walk) (flushes : ℕ) → walk ≡ old.walk → flushes ≡ old.flushes → IsReadOf g old.pager p → (IsSoundOn g old → IsSoundOn g (seen p recalled old.log old.live old.stop walk flushes)) → IsReadOn g old (seen p recalled old.log old.live old.stop walk flushes)
+read_on g old p recalled walk flushes same count r sound = record {
   read = r;
   known = read_knows g old.pager p r;
   view = (λ i. view_of g (record old { pager = p; walk = same i })) ∙ read_shown g old.pager p old.walk (version_of old.live) old.live.epoch old.log.place (length (concat old.log.waiting)) r;
   sound = sound;
-  rest = λ i. record old { pager = p; recalled = recalled; walk = same i };
+  rest = λ i. record old { pager = p; recalled = recalled; walk = same i; flushes = count i };
 }
 
 -- what calls leave that change nodes alone
-pub only_nodes_on : {D : Type 0} (g : Ghosts D) (old : EngineState D) (p : Paged D) (recalled : Findings) (walk : Walk) → IsStanding g old → IsPaged (g.contents old.pager.dev) old.pager → IsPaged (g.contents p.dev) p
-    → (is_known g old.pager → is_known g p) → KeepsSaved g old.pager p → OnlyNodesOn g old (record old { pager = p; recalled = recalled; walk = walk })
-only_nodes_on g old p recalled walk h was now known k = record {
+pub only_nodes_on : {D : Type 0} (g : Ghosts D) (old : EngineState D) (p : Paged D) (recalled : Findings) (walk : Walk) (flushes : ℕ) → IsStanding g old → IsPaged (g.contents old.pager.dev) old.pager → IsPaged (g.contents p.dev) p
+    → (is_known g old.pager → is_known g p) → KeepsSaved g old.pager p → OnlyNodesOn g old (record old { pager = p; recalled = recalled; walk = walk; flushes = flushes })
+only_nodes_on g old p recalled walk flushes h was now known k = record {
   keeps = k;
   known = known;
   view = λ is. kept_shown g (g.contents old.pager.dev) (g.contents p.dev) old.pager p old.walk walk (version_of old.live) old.live.epoch old.log.place (length (concat old.log.waiting)) was now
@@ -120,10 +121,16 @@ pub step_waits : {E : Type 0} (r : Result Bool E) (size limit : ℕ) → (r ≡ 
 step_waits r size limit made enough =
     elim (cases_lt limit size) [ inl many ↦ many | inr few ↦ absurd (made (enough.1 few)) ]
 
+-- none is counted where none was made
+pub not_counted : {E : Type 0} (r : Result Bool E) (before now : ℕ) → (r ≡ Ok true → ⊥) → now ≡ flushes_after before r → now ≡ before
+not_counted (Ok true) before now none is = absurd (none refl)
+not_counted (Ok false) before now none is = is
+not_counted (Err e) before now none is = is
+
 -- where it failed, a graft only read
-pub err_read : {D T E : Type 0} (g : Ghosts D) (old : EngineState D) (p : Paged D) (recalled : Findings) (walk : Walk) (r : Result T E) → OnErr r (walk ≡ old.walk) → OnErr r (IsReadOf g old.pager p) → (IsSoundOn g old → IsSoundOn g (seen p recalled old.log old.live old.stop walk)) → OnErr r (IsReadOn g old (seen p recalled old.log old.live old.stop walk))
+pub err_read : {D T E : Type 0} (g : Ghosts D) (old : EngineState D) (p : Paged D) (recalled : Findings) (walk : Walk) (r : Result T E) → OnErr r (walk ≡ old.walk) → OnErr r (IsReadOf g old.pager p) → (IsSoundOn g old → IsSoundOn g (seen p recalled old.log old.live old.stop walk old.flushes)) → OnErr r (IsReadOn g old (seen p recalled old.log old.live old.stop walk old.flushes))
 err_read g old p recalled walk (Ok x) same read sound = tt
-err_read g old p recalled walk (Err e) same read sound = read_on g old p recalled walk same read sound
+err_read g old p recalled walk (Err e) same read sound = read_on g old p recalled walk old.flushes same refl read sound
 
 -- and so what stood at the keys stands there
 pub err_same : {D T E : Type 0} (g : Ghosts D) (p q : Paged D) (r : Result T E) → OnErr r (IsReadOf g p q) → OnErr r (SameAt (keys_of g p) (keys_of g q))
@@ -131,6 +138,6 @@ err_same g p q (Ok x) read = tt
 err_same g p q (Err e) read = read_same g p q read
 
 -- sound nodes that are only read leave a sound engine
-pub read_keeps_sound : {D : Type 0} (g : Ghosts D) (old : EngineState D) (p : Paged D) (walk : Walk) → IsReadOf g old.pager p → IsSoundOn g old → IsSoundOn g (seen p old.recalled old.log old.live old.stop walk)
-read_keeps_sound g old p walk r s =
-    sound_same g old (seen p old.recalled old.log old.live old.stop walk) refl (read_sound g old.pager p r (sound_nodes g old s)) (read_same g old.pager p r) s
+pub read_keeps_sound : {D : Type 0} (g : Ghosts D) (old : EngineState D) (p : Paged D) (walk : Walk) (flushes : ℕ) → IsReadOf g old.pager p → IsSoundOn g old → IsSoundOn g (seen p old.recalled old.log old.live old.stop walk flushes)
+read_keeps_sound g old p walk flushes r s =
+    sound_same g old (seen p old.recalled old.log old.live old.stop walk flushes) refl (read_sound g old.pager p r (sound_nodes g old s)) (read_same g old.pager p r) s

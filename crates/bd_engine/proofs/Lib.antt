@@ -1,3 +1,4 @@
+pub mod Counted
 pub mod Damage
 pub mod Left
 pub mod Logging

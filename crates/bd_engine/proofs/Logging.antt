@@ -54,6 +54,7 @@ module _ {D : Type 0} (g : Ghosts D) (e : EngineState D) (c : Command) where
           at = given.at;
           log_is = record { first = given.log_is.first; epoch = given.log_is.epoch };
         };
+    room = h.room;
     no_worse = h.no_worse;
   }
 

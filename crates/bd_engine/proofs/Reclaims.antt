@@ -14,7 +14,7 @@ use Rattle.bd_engine.specs.Reclaiming.{MayMake}
 use Rattle.bd_engine.proofs.Left.{read_nodes}
 
 -- the change may be made after reads too
-may_after : {D : Type 0} (g : Ghosts D) (p q : Paged D) (change : Reclaim) → IsReadOf g p q → IsToDo (table_of p) change → (is_known g p → IsSound (nodes_of g p) (table_of p) → IsToDoAt (nodes_of g p) (table_of p) change) → MayMake g q change
+pub may_after : {D : Type 0} (g : Ghosts D) (p q : Paged D) (change : Reclaim) → IsReadOf g p q → IsToDo (table_of p) change → (is_known g p → IsSound (nodes_of g p) (table_of p) → IsToDoAt (nodes_of g p) (table_of p) change) → MayMake g q change
 may_after g p q change r to_do at = record {
   to_do = subst (λ (t : Table). IsToDo t change) (sym (read_table g p q r)) to_do;
   at = λ s.

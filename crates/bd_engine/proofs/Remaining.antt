@@ -1,7 +1,8 @@
 -- How much may be left to change in sound nodes.
-use Rattle.std.proofs.Common.{◌≡◌, ℕ, zero, suc, ◌*◌, ◌<◌, ◌≤◌, ◌^◌, List, [], ◌∷◌, length, drop, ap, arith, inl, inr, length-drop}
+use Rattle.std.proofs.Common.{◌≡◌, ℕ, zero, suc, ◌*◌, ◌≤◌, Bool, true, false, cond, List, [], ◌∷◌, length, drop, refl, ap, arith, inl, inr, length-drop}
+use Rattle.std.specs.Prelude.{nat_le}
 use Rattle.std.specs.List.{sum_by}
-use Rattle.std.proofs.lemmas.Bool.{cases_lt}
+use Rattle.std.proofs.lemmas.Bool.{cases_lt, leb-false}
 use Rattle.std.proofs.lemmas.List.Sums.{sum_by-cons}
 use Rattle.bd_message.specs.declared.message.Message.{Message}
 use Rattle.bd_message.specs.declared.message.Message.TheVariants.{Put, Del, Patch, Cut, Goto}
@@ -12,8 +13,9 @@ use Rattle.bd_node.specs.declared.node.Node.TheVariants.{Leaf, Inner}
 use Rattle.bd_node.specs.Meaning.{Nodes}
 use Rattle.bd_node.specs.Nodes.{level_of}
 use Rattle.bd_node.specs.Shape.{IsShape}
-use Rattle.bd_node.specs.Tables.{Table, IsStored, IsSound, sum_below}
+use Rattle.bd_node.specs.Tables.{Table, IsStored, IsSound, kept_count, sum_below}
 use Rattle.bd_cover.specs.Reclaimed.{unseen_count, unseen_in, left_over}
+use Rattle.bd_engine.specs.Reclaiming.{most_left}
 
 message_some : (m : Message) → 1 ≤ size m
 message_some (Put key value) = omega arith
@@ -50,10 +52,17 @@ stored_few nodes t id h =
           omega (arith, is)
     ]
 
-sum_few : (n : ℕ) (f : ℕ → ℕ) → ((i : ℕ) → f i ≤ 524288) → sum_below n f ≤ n * 524288
+-- no more than so much for each kept node
+kept_few : (nodes : Nodes) (t : Table) (id : ℕ) → IsSound nodes t → (b : Bool) → nat_le 1 (t.count id) ≡ b → unseen_in (nodes id) ≤ cond b 1 0 * 524288
+kept_few nodes t id h true is = omega (arith, stored_few nodes t id h)
+kept_few nodes t id h false is =
+    let none : unseen_in (nodes id) ≡ 0 = ap unseen_in (h.others id (omega (arith, leb-false 1 (t.count id) is))) in
+    omega (arith, none)
+
+sum_few : (n : ℕ) (f k : ℕ → ℕ) → ((i : ℕ) → f i ≤ k i * 524288) → sum_below n f ≤ sum_below n k * 524288
 unfolding sum_below
-sum_few zero f each = omega arith
-sum_few (suc n) f each = omega (arith, each n, sum_few n f each)
+sum_few zero f k each = omega arith
+sum_few (suc n) f k each = omega (arith, each n, sum_few n f k each)
 
 level_low : (n : Node) → IsShape n → level_of n ≤ 1000
 level_low (Leaf entries) h = omega arith
@@ -64,7 +73,8 @@ root_low nodes t h =
     let s : IsStored nodes t t.root = h.each t.root h.table.root in
     omega (arith, s.of_table.level_is, level_low s.node s.of_table.shape)
 
--- no more than the ids allow
-pub left_low : (nodes : Nodes) (t : Table) → IsSound nodes t → t.next < 2 ^ 64 → left_over nodes t < 2 ^ 90
-left_low nodes t h low =
-    omega (arith, low, root_low nodes t h, sum_few t.next (λ id. unseen_in (nodes id)) (λ id. stored_few nodes t id h))
+-- no more than the kept nodes allow
+pub left_low : (nodes : Nodes) (t : Table) → IsSound nodes t → left_over nodes t ≤ most_left t
+unfolding kept_count
+left_low nodes t h =
+    omega (arith, root_low nodes t h, sum_few t.next (λ id. unseen_in (nodes id)) (λ id. cond (nat_le 1 (t.count id)) 1 0) (λ id. kept_few nodes t id h (nat_le 1 (t.count id)) refl))

@@ -22,9 +22,10 @@ use Rattle.bd_pager.specs.Places.{Spots, copy_in, node_at, node_of, nodes_at}
 use Rattle.bd_tails.specs.Tails.{slot_bytes}
 use Rattle.bd_format.specs.Slots.{HasNode}
 use Rattle.bd_pager.proofs.OpenedLemmas.{search_id}
-use Rattle.bd_image.specs.Stored.{entry_of, IsNodeAt, HoldsNodes, table_of as stored_table}
+use Rattle.bd_table.specs.Entries.{entry_of}
+use Rattle.bd_image.specs.Stored.{IsNodeAt, HoldsNodes, table_of as stored_table}
 use Rattle.bd_checkpoint.specs.Saving.{IsSaved}
-use Rattle.bd_checkpoint.proofs.Entries.{entry_found, no_entry}
+use Rattle.bd_table.proofs.EntryLemmas.{entry_found, no_entry}
 use Rattle.bd_checkpoint.proofs.Opened.{AreDecoded}
 use Rattle.bd_checkpoint.proofs.Slotted.{IsSpotOf, HasSpot, table_is}
 use Rattle.bd_engine.specs.Engines.{HasSoundStored}

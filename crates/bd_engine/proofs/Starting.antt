@@ -1,7 +1,8 @@
 -- What an engine starts with.
-use Rattle.std.proofs.Common.{◌≡◌, ℕ, false, List, [], ◌∷◌, map, length, Option, None, Some, IfSome, refl, sym, ap, subst, ◌∙◌}
+use Rattle.std.proofs.Common.{◌≡◌, ℕ, false, List, [], ◌∷◌, ◌++◌, map, length, Option, None, Some, IfSome, refl, sym, ap, subst, ◌∙◌}
 use Rattle.std.specs.List.{concat, AllByRecursion}
 use Rattle.std.specs.Prelude.{IsSome}
+use Rattle.bd_limits.specs.Limits.{cached_limit}
 use Rattle.bd_limits.specs.Places.{first_log_block}
 use Rattle.bd_model.specs.Tree.{Tree}
 use Rattle.bd_device.specs.Blocks.{Image}
@@ -10,14 +11,14 @@ use Rattle.bd_files.specs.Roots.{root_messages}
 use Rattle.bd_node.specs.New.{new_table}
 use Rattle.bd_node.specs.Steps.{with_touched, grown}
 use Rattle.bd_node.specs.Tables.{Table, IsSound, sum_below}
-use Rattle.bd_table.specs.Tables.{AreFreeSlots, IsTableAt}
+use Rattle.bd_table.specs.Tables.{AreFreeSlots, IsTableAt, slots_of}
 use Rattle.bd_super.specs.Live.{IsLive}
 use Rattle.bd_super.specs.Superblocks.{log_block}
 use Rattle.bd_super.specs.declared.superblock.Super.{Super}
 use Rattle.bd_log.specs.Batches.{IsLogRecord, AreBatches}
 use Rattle.bd_log.specs.Logs.{LogState, fresh_log}
 use Rattle.bd_pager.specs.Opened.{IsOpened}
-use Rattle.bd_pager.specs.Pagers.{Paged, spots_of, nodes_of, table_of, is_known, AreEntriesOf, IsPaged}
+use Rattle.bd_pager.specs.Pagers.{Paged, cache_room, spots_of, nodes_of, table_of, is_known, AreEntriesOf, IsPaged}
 use Rattle.bd_image.specs.Versions.{version_of}
 use Rattle.bd_image.specs.Fresh.{first_super, fresh_nodes}
 use Rattle.bd_image.specs.ImageTree.{records_of, HasTree, ImageStandsFor}
@@ -42,13 +43,14 @@ use Rattle.bd_engine.proofs.Damage.{no_worse_fresh, no_worse_opened}
 -- ---- from an image
 
 pub opened_standing : {D : Type 0} (g : Ghosts D) (known : Option Image) (p : Paged D) (log : LogState) (live : Super) → IsOpened known live.slots live.table p → IsOpenOn g p.dev live (saved_of p) log
-    → log ≡ record (fresh_log (log_block live.half) live.epoch) { place = log.place; batches = log.batches } → g.contents p.dev ≡ known → IfSome known (AreStored g p) → (IsSome (g.contents p.dev) → is_known g p) → MayStart g p log live
-opened_standing g known p log live h given idle told stored is = λ recalled. record {
+    → log ≡ record (fresh_log (log_block live.half) live.epoch) { place = log.place; batches = log.batches } → g.contents p.dev ≡ known → IfSome known (AreStored g p) → (IsSome (g.contents p.dev) → is_known g p) → cache_room p ≡ cached_limit → MayStart g p log live
+opened_standing g known p log live h given idle told stored is room = λ recalled. record {
   fits = given.fits;
   size = given.size;
   slots = h.spare.count;
   table = subst (λ (a : List ℕ). IsTableAt live.slots a p.saved) (sym h.at_is) h.table;
   unlent = h.lent;
+  room = room;
   records = subst (λ (l : LogState). AllByRecursion IsLogRecord l.waiting) (sym idle) tt;
   going = λ none. given;
   no_worse = λ none known_now. no_worse_opened g known live.slots live.table p h told stored (is known_now);
@@ -94,7 +96,13 @@ first_view g one (Some image) p recalled log live h stored is_live batches idle 
 pub stored_by : {D : Type 0} (g : Ghosts D) (known : Option Image) (p : Paged D) (recalled : Findings) (log : LogState) (live : Super) → IsOpened known live.slots live.table p → IfSome known (AreStored g p) → IfSome known (λ image. IsLive image live)
     → IfSome known (IsStoredBy g (started p recalled log live))
 stored_by g None p recalled log live h stored is_live = tt
-stored_by g (Some image) p recalled log live h stored is_live = record { live_is = is_live; table_is = h.table_held; at_is = h.at_is; nodes = stored }
+stored_by g (Some image) p recalled log live h stored is_live = record {
+  live_is = is_live;
+  table_is = h.table_held;
+  at_is = h.at_is;
+  spare_is = subst (λ (a : List ℕ). AreFreeSlots live.slots (a ++ slots_of p.saved.entries) p.spare) (sym h.at_is) h.spare;
+  nodes = stored;
+}
 
 -- each command has its place
 pub are_placed : (known : Option Image) (log : LogState) (live : Super) (list : List PlacedCommand) → IfSome known (λ image. IsLive image live) → IfSome known (λ image. AreBatches image (log_block live.half) live.epoch log.batches log.place)
@@ -105,8 +113,8 @@ are_placed (Some image) log live list is_live batches of = record { live_is = is
 -- ---- on a new one
 
 pub fresh_standing : {D : Type 0} (g : Ghosts D) (p : Paged D) (log : LogState) (live : Super) (slots : ℕ) → live ≡ first_super slots p.at → IsOpenOn g p.dev live (saved_of p) log → IsTableAt slots p.at p.saved
-    → AreFreeSlots slots (slots_held (saved_of p)) p.spare → p.is_lent ≡ false → log ≡ fresh_log first_log_block 1 → (IsSome (g.contents p.dev) → is_known g p × IsSound (nodes_of g p) (table_of p)) → AreEntriesOf p.saved.entries (spots_of p) → MayStart g p log live
-fresh_standing g p log live slots is given table spare lent fresh sound entries = λ recalled.
+    → AreFreeSlots slots (slots_held (saved_of p)) p.spare → p.is_lent ≡ false → log ≡ fresh_log first_log_block 1 → (IsSome (g.contents p.dev) → is_known g p × IsSound (nodes_of g p) (table_of p)) → AreEntriesOf p.saved.entries (spots_of p) → cache_room p ≡ cached_limit → MayStart g p log live
+fresh_standing g p log live slots is given table spare lent fresh sound entries room = λ recalled.
     let count : live.slots ≡ slots = ap (λ (s : Super). s.slots) is in
     record {
       fits = given.fits;
@@ -114,6 +122,7 @@ fresh_standing g p log live slots is given table spare lent fresh sound entries 
       slots = spare.count ∙ sym count;
       table = subst (λ (n : ℕ). IsTableAt n p.at p.saved) (sym count) table;
       unlent = lent;
+      room = room;
       records = subst (λ (l : LogState). AllByRecursion IsLogRecord l.waiting) (sym fresh) tt;
       going = λ none. given;
       no_worse = λ none told. no_worse_fresh g slots p (sound told).0 (sound told).1 entries table spare;

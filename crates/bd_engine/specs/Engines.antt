@@ -1,11 +1,12 @@
 -- What an engine is seen as.
-use Rattle.std.specs.Prelude.{◌≡◌, ◌⊎◌, ◌==◌, ◌&&◌, ◌-◌, ◌^◌, nat_lt, if◌then◌else◌, ℕ, [], false, length, Option, None, Some, IsSome, IfSome, Result, Ok, Err, slice_index}
+use Rattle.std.specs.Prelude.{◌≡◌, ◌⊎◌, ◌==◌, ◌&&◌, ◌-◌, ◌^◌, nat_lt, if◌then◌else◌, ℕ, [], false, is_some, length, Option, None, Some, IsSome, IfSome, Result, Ok, Err, ◌+◌, Bool, min}
 use Rattle.std.specs.List.{concat, AllByRecursion}
+use Rattle.bd_limits.specs.Limits.{cached_limit}
 use Rattle.bd_message.specs.KeyMaps.{At, HasMapCause}
 use Rattle.bd_message.specs.declared.fault.Counter.{Counter}
 use Rattle.bd_message.specs.declared.fault.MapFault.{MapFault}
 use Rattle.bd_message.specs.declared.fault.MapFault.TheVariants.{DeviceFault, Damaged, Worn, NoMemory}
-use Rattle.bd_slots.specs.Layout.{image_blocks, slot_block}
+use Rattle.bd_slots.specs.Layout.{image_blocks}
 use Rattle.bd_io.specs.Cause.{next_count}
 use Rattle.bd_device.specs.Blocks.{Image}
 use Rattle.bd_device.specs.Changes.{StaysBut}
@@ -21,9 +22,10 @@ use Rattle.bd_log.specs.Batches.{IsLogRecord}
 use Rattle.bd_log.specs.Logs.{LogState}
 use Rattle.bd_graft.specs.declared.grafting.Walk.{Walk}
 use Rattle.bd_pager.specs.Keeping.{KeepsSaved}
+use Rattle.bd_pager.specs.Moving.{IsDue, WritesOnly}
 use Rattle.bd_pager.specs.Places.{IsBadSpot, NoneTurnsBad}
 use Rattle.bd_pager.specs.Slots.{IsSpare}
-use Rattle.bd_pager.specs.Pagers.{Paged, spots_of, nodes_of, table_of, is_known, is_bad, IsReadOf}
+use Rattle.bd_pager.specs.Pagers.{Paged, cache_room, spots_of, nodes_of, table_of, is_known, is_bad, IsReadOf, is_first_damaged}
 use Rattle.bd_step.specs.Steps.{IsWornToFlush}
 use Rattle.bd_image.specs.Standing.{IsAsBefore}
 use Rattle.bd_image.specs.Stored.{HoldsNodes, table_of as stored_table}
@@ -37,7 +39,8 @@ use Rattle.bd_recall.specs.Kept.{Findings, IsKept}
 use Rattle.bd_shown.specs.Shown.{shown}
 
 -- the nodes, with the device under them; what is kept of look-ups; the log; the live superblock; the
--- number of the device's call at which it was stopped; and how the last graft went
+-- number of the device's call at which it was stopped; how the last graft went; and how many flush
+-- steps were made since it started, up to a u64's last value
 pub record EngineState (D : Type 0) : Type 0 where
   pub pager : Paged D
   pub recalled : Findings
@@ -45,22 +48,24 @@ pub record EngineState (D : Type 0) : Type 0 where
   pub live : Super
   pub stop : Option ℕ
   pub walk : Walk
+  pub flushes : ℕ
 
-abbrev pub seen : {D : Type 0} → Paged D → Findings → LogState → Super → Option ℕ → Walk
+abbrev pub seen : {D : Type 0} → Paged D → Findings → LogState → Super → Option ℕ → Walk → ℕ
     → EngineState D
-seen pager recalled log live stop walk = record {
+seen pager recalled log live stop walk flushes = record {
   pager = pager;
   recalled = recalled;
   log = log;
   live = live;
   stop = stop;
   walk = walk;
+  flushes = flushes;
 }
 
--- one that goes on, in which nothing was grafted
+-- one that goes on, in which nothing was grafted or flushed
 abbrev pub started : {D : Type 0} → Paged D → Findings → LogState → Super → EngineState D
 started pager recalled log live =
-    seen pager recalled log live None (record { visits = 0; height = 0 })
+    seen pager recalled log live None (record { visits = 0; height = 0 }) 0
 
 -- its view
 abbrev pub view_of : {D : Type 0} → Ghosts D → EngineState D → View
@@ -82,23 +87,24 @@ pub record IsSoundOn {D : Type 0} (g : Ghosts D) (e : EngineState D) : Type 0 wh
   pub sound : IsSound (nodes_of g e.pager) (table_of e.pager)
   pub kept : IsKept (keys_of g e.pager) e.recalled
 
--- the block is that of a slot without its node, or else the first one of the checkpoint's table,
--- where the engine isn't sound; as far as its nodes are known
+-- the block is that of a slot without its node; or, where the engine isn't sound, the one that is
+-- damaged then; as far as its nodes are known
 abbrev pub IsBadOn : {D : Type 0} → Ghosts D → EngineState D → ℕ → Type 0
 IsBadOn g e b = is_known g e.pager
     → ((id : ℕ) × IsBadSpot (g.contents e.pager.dev) (spots_of e.pager id) b)
-    ⊎ ((b ≡ slot_block (slice_index e.pager.at 0)) × ¬ IsSoundOn g e)
+    ⊎ (is_first_damaged g e.pager b × ¬ IsSoundOn g e)
 
 -- it is sound where its nodes are, as one is that keeps nothing of look-ups
 abbrev pub IsFreshOn : {D : Type 0} → Ghosts D → EngineState D → Type 0
 IsFreshOn g e = HasSoundNodes g e.pager → IsSoundOn g e
 
--- of some calls none failed at Ok, and at an error each fault has its cause: damage is of a bad
--- block, and a counter is worn as is told
+-- of some calls none failed at Ok, and at an error each fault has its cause: the device's is that
+-- of the last call, and of no other, damage is of a bad block, and a counter is worn as is told
 abbrev pub HasCause : {D T : Type 0} → Ghosts D → Paged D → Paged D → (Counter → Type 0)
     → Result T MapFault → Type 0
 HasCause g old new worn result =
-    HasMapCause (g.fault_count old.dev) (g.fault_count new.dev) (is_bad g new) worn result
+    HasMapCause (g.fault_count old.dev) (g.fault_count new.dev) (g.last_failed new.dev)
+    (is_bad g new) worn result
 
 -- why a flush step has no room in a counter
 abbrev pub IsWornIn : {D : Type 0} → Ghosts D → Paged D → Counter → Type 0
@@ -116,13 +122,27 @@ pub record IsReadOn {D : Type 0} (g : Ghosts D) (old new : EngineState D) : Type
   pub sound : IsSoundOn g old → IsSoundOn g new
   pub rest : new ≡ record old { pager = new.pager; recalled = new.recalled }
 
--- only nodes were changed, in memory, and with them what is kept of look-ups and how the last graft
--- went: nothing was written, and nodes that were known stay so
+-- the count of flush steps after so many more, which stops at a u64's last value
+abbrev pub flushed_on : ℕ → ℕ → ℕ
+flushed_on before more = min (before + more) (2 ^ 64 - 1)
+
+-- the count after a call that says whether it made one
+abbrev pub flushes_after : {E : Type 0} → ℕ → Result Bool E → ℕ
+flushes_after before (Ok made) = if made then flushed_on before 1 else before
+flushes_after before (Err fault) = before
+
+-- only nodes were changed, in memory, and with them what is kept of look-ups, how the last graft
+-- went and how many flush steps were made: nothing was written, and nodes that were known stay so
 pub record OnlyNodesOn {D : Type 0} (g : Ghosts D) (old new : EngineState D) : Type 0 where
   pub keeps : KeepsSaved g old.pager new.pager
   pub known : is_known g old.pager → is_known g new.pager
   pub view : is_known g old.pager → OnlyNodes (view_of g old) (view_of g new)
-  pub rest : new ≡ record old { pager = new.pager; recalled = new.recalled; walk = new.walk }
+  pub rest : new ≡ record old {
+    pager = new.pager;
+    recalled = new.recalled;
+    walk = new.walk;
+    flushes = new.flushes;
+  }
 
 -- the number of the device's last call where it stopped the engine: that call failed, and since this
 -- count of failed writes and barriers one more failed, or it stands at its last value
@@ -139,10 +159,12 @@ abbrev pub stop_by : {T E : Type 0} → ℕ → Result T E → Option ℕ
 stop_by calls (Ok done) = None
 stop_by calls (Err fault) = Some calls
 
--- no write or barrier failed: it goes on, and an image that a crash now leaves stands for what one
--- of before stood for
+-- no write or barrier failed: it goes on, no more was written than slots that the last checkpoint
+-- doesn't hold, and an image that a crash now leaves stands for what one of before stood for
 pub record IsGoingOn {D : Type 0} (g : Ghosts D) (old new : EngineState D) : Type 0 where
   pub stop_is : new.stop ≡ None
+  pub slots : StaysBut (IsSpare old.pager.spare) (g.contents old.pager.dev)
+      (g.contents new.pager.dev)
   pub write_faults : g.write_fault_count new.pager.dev ≡ g.write_fault_count old.pager.dev
   pub kept : AllAsBefore (left_now g old.pager.dev) (left_now g new.pager.dev)
 
@@ -164,8 +186,10 @@ abbrev pub memory_limit : ℕ
 memory_limit = 8
 
 -- changed nodes were written early, also where a call failed: no more than slots that the last
--- checkpoint doesn't hold were written, the view stays, no block becomes bad, and an image that a
--- crash leaves, inside it or after it, stands for all that one of before stood for
+-- checkpoint doesn't hold were written, and of these no more than those of nodes that have left
+-- memory, and where it was stopped that of the next one; the view stays, no block becomes bad, also
+-- where nodes aren't sound, and an image that a crash leaves, inside it or after it, stands for all
+-- that one of before stood for
 pub record WritesEarly {D : Type 0} (g : Ghosts D) (old new : EngineState D) : Type 0 where
   pub table : table_of new.pager ≡ table_of old.pager
   pub known : is_known g old.pager → is_known g new.pager
@@ -176,8 +200,11 @@ pub record WritesEarly {D : Type 0} (g : Ghosts D) (old new : EngineState D) : T
   pub kept : AllAsBefore (left_now g old.pager.dev) (left_now g new.pager.dev)
   pub slots : StaysBut (IsSpare old.pager.spare) (g.contents old.pager.dev)
       (g.contents new.pager.dev)
+  pub due : WritesOnly g (IsDue old.pager.root (is_some new.stop) (spots_of old.pager)
+      (spots_of new.pager)) old.pager.dev new.pager.dev
   pub bad : is_known g old.pager → NoneTurnsBad (g.contents old.pager.dev) (spots_of old.pager)
       (g.contents new.pager.dev) (spots_of new.pager)
+  pub first : (b : ℕ) → is_first_damaged g new.pager b → is_first_damaged g old.pager b
   pub stays : Stays g old.pager.dev new.pager.dev
   pub pager : new.pager ≡ record old.pager {
     dev = new.pager.dev;
@@ -194,6 +221,7 @@ pub record KeepsNodesOn {D : Type 0} (g : Ghosts D) (old new : EngineState D) : 
   pub sound : IsSoundOn g old → IsSoundOn g new
   pub live : new.live ≡ old.live
   pub walk : new.walk ≡ old.walk
+  pub flushes : new.flushes ≡ old.flushes
 
 -- ---- between two calls
 
@@ -212,15 +240,16 @@ pub record IsNoWorse {D : Type 0} (g : Ghosts D) (p : Paged D) : Type 0 where
       → IsSound (nodes_of g p) (table_of p))
 
 -- the device, which isn't lent, has the blocks of an image of the superblock's slots, in which the
--- last checkpoint's table stands; the log's bytes are whole records; and, until it is stopped, what
--- is known of its images, and that the nodes are no worse than the last checkpoint's, as far as the
--- device tells what it has
+-- last checkpoint's table stands; its pager's cache has room for 64 nodes; the log's bytes
+-- are whole records; and, until it is stopped, what is known of its images, and that the nodes are
+-- no worse than the last checkpoint's, as far as the device tells what it has
 pub record IsStanding {D : Type 0} (g : Ghosts D) (e : EngineState D) : Type 0 where
   pub fits : IsSuper e.live
   pub size : g.block_count e.pager.dev ≡ image_blocks e.live.slots
   pub slots : length e.pager.spare ≡ e.live.slots
   pub table : IsTableAt e.live.slots e.pager.at e.pager.saved
   pub unlent : e.pager.is_lent ≡ false
+  pub room : cache_room e.pager ≡ cached_limit
   pub records : AllByRecursion IsLogRecord e.log.waiting
   pub going : e.stop ≡ None → IsOpenOn g e.pager.dev e.live (saved_of e.pager) e.log
   pub no_worse : e.stop ≡ None → IsSome (g.contents e.pager.dev) → IsNoWorse g e.pager

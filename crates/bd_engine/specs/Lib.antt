@@ -1,3 +1,4 @@
 pub mod Engines
 pub mod Reclaiming
 pub mod Stored
+pub mod Writes

@@ -1,7 +1,9 @@
 -- Changes of reclaiming in an engine's nodes.
+use Rattle.std.specs.Prelude.{ℕ, ◌+◌, ◌*◌}
+use Rattle.bd_limits.specs.Limits.{buffer_limit, edge_limit, level_limit}
 use Rattle.bd_message.specs.declared.fault.Counter.{Counter}
 use Rattle.bd_device.specs.declared.device.Device.{Ghosts}
-use Rattle.bd_node.specs.Tables.{IsSound}
+use Rattle.bd_node.specs.Tables.{Table, kept_count, IsSound}
 use Rattle.bd_pager.specs.Pagers.{Paged, nodes_of, table_of, is_known}
 use Rattle.bd_cover.specs.declared.walking.Reclaim.{Reclaim}
 use Rattle.bd_reclaim.specs.Changes.{IsWornChange}
@@ -17,3 +19,8 @@ pub record MayMake {D : Type 0} (g : Ghosts D) (p : Paged D) (change : Reclaim) 
 abbrev pub IsWornToChange : {D : Type 0} → Ghosts D → Paged D → Reclaim → Counter → Type 0
 IsWornToChange g p change = IsWornChange (is_known g p × IsSound (nodes_of g p) (table_of p))
     (nodes_of g p) (table_of p) change
+
+-- how much may be left to change in sound nodes: for each of them as many messages as its edges and
+-- what waits in it allow, and the greatest level
+abbrev pub most_left : Table → ℕ
+most_left t = kept_count t * (edge_limit * buffer_limit) + level_limit

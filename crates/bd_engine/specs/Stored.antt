@@ -6,6 +6,7 @@ use Rattle.bd_device.specs.Blocks.{Image}
 use Rattle.bd_device.specs.declared.device.Device.{Ghosts}
 use Rattle.bd_node.specs.Meaning.{Nodes}
 use Rattle.bd_table.specs.Image.{HoldsTable}
+use Rattle.bd_table.specs.Tables.{AreFreeSlots}
 use Rattle.bd_table.specs.declared.table.Table.{Table as StoredTable}
 use Rattle.bd_super.specs.Live.{IsLive}
 use Rattle.bd_super.specs.Superblocks.{log_block}
@@ -17,7 +18,8 @@ use Rattle.bd_image.specs.Versions.{version_of}
 use Rattle.bd_image.specs.Stored.{table_of as stored_table}
 use Rattle.bd_image.specs.Damage.{placed_records}
 use Rattle.bd_checkpoint.specs.Commands.{AreCommandsOf}
-use Rattle.bd_checkpoint.specs.Recovering.{AreStored}
+use Rattle.bd_checkpoint.specs.Kept.{slots_held}
+use Rattle.bd_checkpoint.specs.Recovering.{saved_of, AreStored}
 use Rattle.bd_checkpoint.specs.declared.commands.PlacedCommand.{PlacedCommand}
 use Rattle.bd_view.specs.Views.{View}
 use Rattle.bd_shown.specs.Shown.{ids_of}
@@ -56,12 +58,13 @@ pub record IsFound (image : Image) (v : View) (commands : List Command) : Type 0
   pub stored : IsStoredView image v
   pub records_are : map log_record commands ≡ records_of stored.batches
 
--- the image starts from the engine's superblock and table, and the engine's nodes are those that it
--- stores
+-- the image starts from the engine's superblock and table, which hold all slots but the spare ones,
+-- and the engine's nodes are those that it stores
 pub record IsStoredBy {D : Type 0} (g : Ghosts D) (e : EngineState D) (image : Image) : Type 0 where
   pub live_is : IsLive image e.live
   pub table_is : HoldsTable image e.live.slots e.live.table e.pager.saved
   pub at_is : e.pager.at ≡ e.live.table
+  pub spare_is : AreFreeSlots e.live.slots (slots_held (saved_of e.pager)) e.pager.spare
   pub nodes : AreStored g e.pager image
 
 -- the checkpoint from which an image starts has just the nodes that the view has as saved

@@ -38,7 +38,8 @@ const LATE_SLOTS: u64 = 4;
 // How many another step may need, beside two for each node on the way down.
 const STEP_SLOTS: u64 = 8;
 
-/// The nodes of an image on a device, its log and its last checkpoint.
+/// The nodes of an image on a device, its log and its last checkpoint. At most 64 nodes are cached,
+/// which were read from slots or written there, beside the root.
 #[derive(Drop)]
 pub struct Engine<D: Device> {
     alloc: Global,
@@ -46,6 +47,7 @@ pub struct Engine<D: Device> {
     log: Log,
     live: Super,
     stop: Option<u64>,
+    flushes: u64,
 }
 
 impl<D: Device> Model for Engine<D> {
@@ -55,10 +57,11 @@ impl<D: Device> Model for Engine<D> {
     ghost Value = { EngineState D };
 
     ghost view = { λ e. seen e.tree.map.store (findings e.tree.recalled) e.log e.live e.stop
-        e.tree.map.walk };
+        e.tree.map.walk e.flushes };
 
     ghost invariant = { λ e. IsStanding D.Device
-        (seen e.tree.map.store (findings e.tree.recalled) e.log e.live e.stop e.tree.map.walk) };
+        (seen e.tree.map.store (findings e.tree.recalled) e.log e.live e.stop e.tree.map.walk
+        e.flushes) };
 }
 
 impl<D: Device> Engine<D> {
@@ -77,6 +80,7 @@ impl<D: Device> Engine<D> {
             log,
             live,
             stop: None,
+            flushes: 0,
         }
     }
 
@@ -154,6 +158,13 @@ impl<D: Device> Engine<D> {
         self.tree.map.last_walk()
     }
 
+    /// How many flush steps it has made, up to a u64's last value.
+    pub fn flushes(&self) -> u64
+        ensures { result ≡ self.now.flushes }
+    {
+        self.flushes
+    }
+
     /// How many slots the image has.
     pub fn slots(&self) -> u32
         ensures { result ≡ (view_of D.Device self.now).slots }
@@ -178,6 +189,7 @@ impl<D: Device> Engine<D> {
             log,
             live,
             stop,
+            flushes,
         } = self;
         let Recalling { map, recalled } = tree;
         Engine {
@@ -189,6 +201,7 @@ impl<D: Device> Engine<D> {
             log,
             live,
             stop,
+            flushes,
         }
     }
 

@@ -1,8 +1,7 @@
 -- What calls leave of a volume, one after the other.
 use Rattle.std.proofs.Common.{◌≡◌, ℕ, ◌<◌, ◌≤◌, ◌⊎◌, None, Some, refl, sym, subst, ap, ◌∙◌, arith, inl, inr}
 use Rattle.std.specs.Prelude.{Result, Ok, Err}
-use Rattle.std.proofs.lemmas.Bool.{cases_lt}
-use Rattle.bd_io.specs.Cause.{Rose, next_count}
+use Rattle.bd_io.specs.Cause.{next_count}
 use Rattle.bd_device.specs.Device.{OnlyReads, Stays, LastFailed}
 use Rattle.bd_device.specs.declared.device.Device.{Ghosts}
 use Rattle.bd_device.proofs.Calls.{stays_then, reads_stay}
@@ -11,14 +10,17 @@ use Rattle.bd_message.specs.declared.fault.Counter.{Counter}
 use Rattle.bd_message.specs.declared.fault.MapFault.{MapFault}
 use Rattle.bd_message.specs.declared.fault.MapFault.TheVariants as map
 use Rattle.bd_checkpoint.specs.Saving.{IsCheckpointCause}
+use Rattle.bd_checkpoint.proofs.Checkpointed.{failed_after}
 use Rattle.bd_pager.specs.Pagers.{Paged, is_bad}
 use Rattle.bd_engine.specs.Engines.{IsStopped, IsGoingOn}
+use Rattle.bd_engine.specs.Writes.{WritesOn}
 use Rattle.bd_volume.specs.declared.fault.Fault.{Fault}
 use Rattle.bd_volume.specs.declared.fault.Fault.TheVariants.{Device, Damaged, Worn, NoMemory, Full, Stopped}
 use Rattle.bd_volume.specs.declared.volume.Volume.{Volume}
 use Rattle.bd_volume.specs.Faults.{fault_of, HasNotFailed, IsFaultCause, IsGoing, IsHalted, IsStoppedRightly}
 use Rattle.bd_volume.specs.Volume.{count_of, device_of, stop_of}
 use Rattle.bd_volume.specs.Steps.{GoesOn, Ends}
+use Rattle.bd_volume.proofs.Writes.{writes_none, writes_then, writes_logged}
 
 module _ {D : Type 0} (g : Ghosts D) where
   -- ---- one after the other
@@ -29,6 +31,7 @@ module _ {D : Type 0} (g : Ghosts D) where
     faults = refl;
     count_is = refl;
     stays = record { count = refl; same_name = λ name was. was; same_loans = refl };
+    writes = writes_none g a.engine;
   }
 
   pub going_then : (a b c : Volume D) → IsGoing g a b → IsGoing g b c → IsGoing g a c
@@ -40,10 +43,11 @@ module _ {D : Type 0} (g : Ghosts D) where
     faults = q.faults ∙ p.faults;
     count_is = q.count_is ∙ p.count_is;
     stays = stays_then p.stays q.stays;
+    writes = writes_then g a.engine b.engine c.engine p.going.stop_is p.writes q.writes;
   }
 
   fault_then : (a b c : Volume D) (fault : Fault) → GoesOn g a b → IsFaultCause g b c fault → IsFaultCause g a c fault
-  fault_then a b c Device p h = subst (λ (n : ℕ). Rose n (g.fault_count (device_of c))) p.faults h
+  fault_then a b c Device p h = failed_after g (device_of a) (device_of b) (device_of c) p.faults h
   fault_then a b c (Damaged block) p h = (h.0, h.1 ∙ p.faults)
   fault_then a b c (Worn which) p h = h ∙ p.faults
   fault_then a b c NoMemory p h = h ∙ p.faults
@@ -58,7 +62,7 @@ module _ {D : Type 0} (g : Ghosts D) where
   halted_then a b c p faults h = record {
     stop_is = h.stop_is;
     write_faults = h.write_faults ∙ ap next_count p.write_faults;
-    failed = record { one = h.failed.one ∙ ap next_count faults; last = h.failed.last };
+    failed = failed_after g (device_of a) (device_of b) (device_of c) faults h.failed;
   }
 
   pub stop_then : {T : Type 0} (a b c : Volume D) (r : Result T Fault) → IsGoing g a b → HasNotFailed g a b → IsStoppedRightly g b c r → IsStoppedRightly g a c r
@@ -73,11 +77,13 @@ module _ {D : Type 0} (g : Ghosts D) where
     cause = record { later = omega (arith, p.faults, h.cause.later); kept = h.cause.kept ∙ p.faults; failed = tt };
     stop = stop_then a b c (Ok x) p.going p.faults h.stop;
     stays = stays_then p.stays h.stays;
+    writes = writes_then g a.engine b.engine c.engine p.going.stop_is p.writes h.writes;
   }
   ends_then a b c (Err e) p h = record {
     cause = record { later = omega (arith, p.faults, h.cause.later); kept = tt; failed = fault_then a b c e p h.cause.failed };
     stop = stop_then a b c (Err e) p.going p.faults h.stop;
     stays = stays_then p.stays h.stays;
+    writes = writes_then g a.engine b.engine c.engine p.going.stop_is p.writes h.writes;
   }
 
   -- ---- what goes on
@@ -91,56 +97,60 @@ module _ {D : Type 0} (g : Ghosts D) where
     cause = record { later = omega (arith, p.faults); kept = p.faults; failed = tt };
     stop = record { ok = p.going; err = tt };
     stays = p.stays;
+    writes = p.writes;
   }
 
   pub went_on : {T : Type 0} (a b : Volume D) (x : T) → Ends {T = T} g a b (Ok x) → count_of b ≡ count_of a → GoesOn g a b
-  went_on a b x h same = record { going = h.stop.ok; faults = h.cause.kept; count_is = same; stays = h.stays }
+  went_on a b x h same = record { going = h.stop.ok; faults = h.cause.kept; count_is = same; stays = h.stays; writes = h.writes }
 
   going_fault : {T : Type 0} (a b : Volume D) (fault : Fault) → GoesOn g a b → IsFaultCause g a b fault → Ends {T = T} g a b (Err fault)
   going_fault a b fault p h = record {
     cause = record { later = omega (arith, p.faults); kept = tt; failed = h };
     stop = record { ok = tt; err = inl p.going };
     stays = p.stays;
+    writes = p.writes;
   }
 
   pub ends_full : {T : Type 0} (a b : Volume D) (free need : ℕ) → GoesOn g a b → free < need → Ends {T = T} g a b (Err (Full free need))
   ends_full a b free need p short = going_fault a b (Full free need) p (short, p.faults)
 
+  pub ends_worn : {T : Type 0} (a b : Volume D) (which : Counter) → GoesOn g a b → Ends {T = T} g a b (Err (Worn which))
+  ends_worn a b which p = going_fault a b (Worn which) p p.faults
+
   -- ---- calls that write nothing
 
-  pub read_goes : (a b : Volume D) → stop_of a ≡ None → stop_of b ≡ stop_of a → OnlyReads g (device_of a) (device_of b) → HasNotFailed g a b → count_of b ≡ count_of a → GoesOn g a b
-  read_goes a b going same reads faults count = record {
+  pub read_goes : (a b : Volume D) → stop_of a ≡ None → stop_of b ≡ stop_of a → OnlyReads g (device_of a) (device_of b) → HasNotFailed g a b → count_of b ≡ count_of a → WritesOn g a.engine b.engine → GoesOn g a b
+  read_goes a b going same reads faults count writes = record {
     going = record { stop_is = same ∙ going; write_faults = reads.write_faults };
     faults = faults;
     count_is = count;
     stays = reads_stay reads;
+    writes = writes;
   }
 
   map_cause : (a b : Volume D) (worn : Counter → Type 0) (fault : MapFault) → StaysUnlessDevice (g.fault_count (device_of a)) (g.fault_count (device_of b)) fault
-      → IsCause (g.fault_count (device_of a)) (g.fault_count (device_of b)) (is_bad g b.engine.pager) worn fault → IsFaultCause g a b (fault_of fault)
-  map_cause a b worn map.DeviceFault stays h = h
+      → IsCause (g.fault_count (device_of a)) (g.fault_count (device_of b)) (g.last_failed (device_of b)) (is_bad g b.engine.pager) worn fault → IsFaultCause g a b (fault_of fault)
+  map_cause a b worn map.DeviceFault stays h = record { one = h.0; last = h.1 }
   map_cause a b worn (map.Damaged block) stays h = (h, stays)
   map_cause a b worn (map.Worn which) stays h = stays
   map_cause a b worn map.NoMemory stays h = stays
 
   pub read_fails : {T U : Type 0} (a b : Volume D) (worn : Counter → Type 0) (fault : MapFault) → stop_of a ≡ None → stop_of b ≡ stop_of a → OnlyReads g (device_of a) (device_of b)
-      → HasMapCause {T = U} (g.fault_count (device_of a)) (g.fault_count (device_of b)) (is_bad g b.engine.pager) worn (Err fault) → Ends {T = T} g a b (Err (fault_of fault))
-  read_fails a b worn fault going same reads cause = record {
+      → HasMapCause {T = U} (g.fault_count (device_of a)) (g.fault_count (device_of b)) (g.last_failed (device_of b)) (is_bad g b.engine.pager) worn (Err fault) → WritesOn g a.engine b.engine → Ends {T = T} g a b (Err (fault_of fault))
+  read_fails a b worn fault going same reads cause writes = record {
     cause = record { later = cause.later; kept = tt; failed = map_cause a b worn fault cause.stays cause.failed };
     stop = record { ok = tt; err = inl (record { stop_is = same ∙ going; write_faults = reads.write_faults }) };
     stays = reads_stay reads;
+    writes = writes;
   }
 
   -- ---- checkpoints
 
-  pub rose : (m n : ℕ) → m ≤ n → n ≡ next_count m → Rose m n
-  rose m n later one = elim (cases_lt m n) [ inl low ↦ inl low | inr same ↦ inr (omega (arith, later, one, same)) ]
-
-  save_cause : (a b : Volume D) (fault : MapFault) → g.fault_count (device_of a) ≤ g.fault_count (device_of b) → IsCheckpointCause g (device_of a) (device_of b) a.engine.live fault → IsFaultCause g a b (fault_of fault)
-  save_cause a b map.DeviceFault later h = rose (g.fault_count (device_of a)) (g.fault_count (device_of b)) later h.one
-  save_cause a b (map.Damaged block) later h = absurd h
-  save_cause a b (map.Worn which) later h = ap g.fault_count h.2
-  save_cause a b map.NoMemory later h = ap g.fault_count h
+  save_cause : (a b : Volume D) (fault : MapFault) → IsCheckpointCause g (device_of a) (device_of b) a.engine.live fault → IsFaultCause g a b (fault_of fault)
+  save_cause a b map.DeviceFault h = h
+  save_cause a b (map.Damaged block) h = absurd h
+  save_cause a b (map.Worn which) h = ap g.fault_count h.2
+  save_cause a b map.NoMemory h = ap g.fault_count h
 
   save_failed : (a b : Volume D) (fault : MapFault) → fault ≡ map.DeviceFault → IsCheckpointCause g (device_of a) (device_of b) a.engine.live fault → LastFailed g (device_of a) (device_of b)
   save_failed a b fault is h = subst (λ (f : MapFault). IsCheckpointCause g (device_of a) (device_of b) a.engine.live f) is h
@@ -153,10 +163,10 @@ module _ {D : Type 0} (g : Ghosts D) where
   save_untouched a b map.NoMemory h other = h
 
   pub save_fails : {T : Type 0} (a b : Volume D) (fault : MapFault) → g.fault_count (device_of a) ≤ g.fault_count (device_of b)
-      → (IsStopped g a.engine b.engine × (fault ≡ map.DeviceFault)) ⊎ IsGoingOn g a.engine b.engine → IsCheckpointCause g (device_of a) (device_of b) a.engine.live fault → Stays g (device_of a) (device_of b)
+      → (IsStopped g a.engine b.engine × (fault ≡ map.DeviceFault)) ⊎ IsGoingOn g a.engine b.engine → IsCheckpointCause g (device_of a) (device_of b) a.engine.live fault → Stays g (device_of a) (device_of b) → WritesOn g a.engine b.engine
       → Ends {T = T} g a b (Err (fault_of fault))
-  save_fails a b fault later stop cause stays = record {
-    cause = record { later = later; kept = tt; failed = save_cause a b fault later cause };
+  save_fails a b fault later stop cause stays writes = record {
+    cause = record { later = later; kept = tt; failed = save_cause a b fault cause };
     stop = record {
       ok = tt;
       err = elim stop [
@@ -165,6 +175,7 @@ module _ {D : Type 0} (g : Ghosts D) where
       ];
     };
     stays = stays;
+    writes = writes;
   }
 
   -- ---- a volume that was stopped
@@ -172,13 +183,14 @@ module _ {D : Type 0} (g : Ghosts D) where
   -- ---- a command that was logged and counted
 
   -- nothing but the log and the count changes
-  pub ends_logged : {T : Type 0} (a b d : Volume D) (x : T) → GoesOn g a b → d.engine.pager ≡ b.engine.pager → stop_of d ≡ stop_of b → Ends {T = T} g a d (Ok x)
-  ends_logged a b d x p pager stop =
+  pub ends_logged : {T : Type 0} (a b d : Volume D) (x : T) → GoesOn g a b → d.engine.pager ≡ b.engine.pager → d.engine.live ≡ b.engine.live → stop_of d ≡ stop_of b → Ends {T = T} g a d (Ok x)
+  ends_logged a b d x p pager live stop =
       let same : device_of d ≡ device_of b = ap (λ (q : Paged D). q.dev) pager in
       record {
         cause = record { later = omega (arith, p.faults, ap g.fault_count same); kept = ap g.fault_count same ∙ p.faults; failed = tt };
         stop = record { ok = record { stop_is = stop ∙ p.going.stop_is; write_faults = ap g.write_fault_count same ∙ p.going.write_faults }; err = tt };
         stays = subst (λ (e : D). Stays g (device_of a) e) (sym same) p.stays;
+        writes = writes_logged g a.engine b.engine d.engine p.writes pager live stop;
       }
 
   -- a fault of a call is one of another result
@@ -187,4 +199,5 @@ module _ {D : Type 0} (g : Ghosts D) where
     cause = record { later = h.cause.later; kept = tt; failed = h.cause.failed };
     stop = record { ok = tt; err = h.stop.err };
     stays = h.stays;
+    writes = h.writes;
   }

@@ -25,14 +25,14 @@ use Rattle.bd_pager.specs.Pagers.{Paged, nodes_of, table_of, is_known, is_bad, I
 use Rattle.bd_view.specs.Trees.{TreeView, waiting_limit}
 use Rattle.bd_view.specs.Views.{View}
 use Rattle.bd_view.specs.Moves.{AreSteps, HasStepped, CallsForSave}
-use Rattle.bd_engine.specs.Engines.{IsWornIn}
+use Rattle.bd_engine.specs.Engines.{EngineState, IsWornIn}
 use Rattle.bd_volume.specs.declared.fault.Fault.{Fault}
 use Rattle.bd_volume.specs.declared.fault.Fault.TheVariants.{Device, Damaged, Worn, NoMemory, Full, Stopped}
 use Rattle.bd_volume.specs.declared.volume.Volume.{Volume}
 use Rattle.bd_volume.specs.Faults.{fault_of}
 use Rattle.bd_volume.specs.Volume.{view_of}
-use Rattle.bd_volume.specs.Wears.{IsWornByKind, IsWornForSending, IsWornForSave, IsWornInReplay, IsWornNow, Wears, ShowsWorn}
-use Rattle.bd_volume.specs.Steps.{ShowsFault, IsSaveFault, IsWornInStep, IsStepFault, IsCommandFault}
+use Rattle.bd_volume.specs.Wears.{IsWornByKind, IsWornForSending, IsWornForSave, IsWornInReplay, IsWornNow, Wears, ShowsWornIn, IsGraftKind, ShowsWorn}
+use Rattle.bd_volume.specs.Steps.{ShowsStep, ShowsFault, IsSaveFault, IsWornInStep, IsStepFault, IsCommandFault}
 use Rattle.bd_volume.proofs.Stepped.{not_stepped}
 use Rattle.bd_volume.proofs.Read.{read_worn}
 
@@ -108,6 +108,7 @@ worn_where : (K L : Type 0) (nodes : Nodes) (t : Table) (which : Counter) → (L
 worn_where K L nodes t which knows h = record {
   step = h.step;
   to_do = h.to_do;
+  way = h.way;
   here = λ l. h.here (knows l);
   worn = elim h.worn [
     | inl w ↦ inl (record { step = w.step; is = step_known L K nodes nodes t h.step w.step (λ l. (knows l, refl)) w.is; worn = w.worn })
@@ -132,18 +133,39 @@ module _ {D : Type 0} (g : Ghosts D) where
   saves_in_step (Ok x) a b c h calls same = tt
   saves_in_step (Err e) a b c h calls same = save_in_step a b c e h calls same
 
-  save_shows : (a b : Volume D) (count : ℕ) (c : Command) (fault : Fault) → IsSaveFault a b fault → ShowsFault g fault count c b.engine
-  save_shows a b count c Device h = tt
-  save_shows a b count c (Damaged block) h = tt
-  save_shows a b count c (Worn which) h =
-      subst (λ (w : Counter). ShowsWorn g w count c b.engine) (sym h.0) (subst (λ (live : Super). 2 ^ 64 ≤ live.epoch + 1) (sym h.2) h.1)
-  save_shows a b count c NoMemory h = tt
-  save_shows a b count c (Full free need) h = absurd h
-  save_shows a b count c (Stopped call) h = tt
+  save_shows : (a b : Volume D) (c : Command) (fault : Fault) → IsSaveFault a b fault → ShowsStep g fault c b.engine
+  save_shows a b c Device h = tt
+  save_shows a b c (Damaged block) h = tt
+  save_shows a b c (Worn which) h =
+      subst (λ (w : Counter). ShowsWornIn g w c b.engine) (sym h.0) (subst (λ (live : Super). 2 ^ 64 ≤ live.epoch + 1) (sym h.2) h.1)
+  save_shows a b c NoMemory h = tt
+  save_shows a b c (Full free need) h = absurd h
+  save_shows a b c (Stopped call) h = tt
 
-  pub saves_show : {T : Type 0} (r : Result T Fault) (a b : Volume D) (count : ℕ) (c : Command) → IfErr r (IsSaveFault a b) → IfErr r (λ fault. ShowsFault g fault count c b.engine)
-  saves_show (Ok x) a b count c h = tt
-  saves_show (Err e) a b count c h = save_shows a b count c e h
+  pub saves_show : {T : Type 0} (r : Result T Fault) (a b : Volume D) (c : Command) → IfErr r (IsSaveFault a b) → IfErr r (λ fault. ShowsStep g fault c b.engine)
+  saves_show (Ok x) a b c h = tt
+  saves_show (Err e) a b c h = save_shows a b c e h
+
+  -- a fault of a step is the command's
+  worn_shows_step : (which : Counter) (count before : ℕ) (c : Command) (e : EngineState D) → ShowsWornIn g which c e → ShowsWorn g which count before c e
+  worn_shows_step Count count before c e h = absurd h
+  worn_shows_step NextId count before c e h = h
+  worn_shows_step Level count before c e h = h
+  worn_shows_step Refs count before c e h = h
+  worn_shows_step Epoch count before c e h = h
+  worn_shows_step Flushes count before c e h = absurd h
+
+  pub step_shows : (fault : Fault) (count before : ℕ) (c : Command) (e : EngineState D) → ShowsStep g fault c e → ShowsFault g fault count before c e
+  step_shows Device count before c e h = tt
+  step_shows (Damaged block) count before c e h = tt
+  step_shows (Worn which) count before c e h = worn_shows_step which count before c e h
+  step_shows NoMemory count before c e h = tt
+  step_shows (Full free need) count before c e h = h
+  step_shows (Stopped call) count before c e h = tt
+
+  -- where as many flush steps were made before
+  pub shows_same : {T : Type 0} (r : Result T Fault) (count before first : ℕ) (c : Command) (e : EngineState D) → before ≡ first → IfErr r (λ fault. ShowsFault g fault count before c e) → IfErr r (λ fault. ShowsFault g fault count first c e)
+  shows_same r count before first c e same h = subst (λ (n : ℕ). IfErr r (λ fault. ShowsFault g fault count n c e)) same h
 
   -- ---- flush steps
 
@@ -160,59 +182,71 @@ module _ {D : Type 0} (g : Ghosts D) where
   worn_in_step a Flushes c known waits h = never_counted (AreKnownIn a.engine.pager) (view_of g a).tree Flushes (λ step w. w) (λ e. cc) h
 
   -- one that isn't made, since a counter is worn or there is no memory
-  pub flush_fails : (m n : ℕ) (a b : Volume D) (c : Command) (fault : MapFault) → is_known g a.engine.pager → waiting_limit c < (table_of a.engine.pager).size → view_of g b ≡ view_of g a → ((block : ℕ) → is_bad g b.engine.pager block → ⊥)
-      → IsCause m n (is_bad g b.engine.pager) (IsWornIn g a.engine.pager) fault → IsStepFault (fault_of fault) c (view_of g b)
-  flush_fails m n a b c map.DeviceFault known waits same good h = tt
-  flush_fails m n a b c (map.Damaged block) known waits same good h = good block h
-  flush_fails m n a b c (map.Worn which) known waits same good h = subst (λ (v : View). IsWornInStep which c v) (sym same) (worn_in_step a which c known waits h)
-  flush_fails m n a b c map.NoMemory known waits same good h = tt
+  pub flush_fails : (m n : ℕ) (last : Bool) (a b : Volume D) (c : Command) (fault : MapFault) → is_known g a.engine.pager → waiting_limit c < (table_of a.engine.pager).size → view_of g b ≡ view_of g a → ((block : ℕ) → is_bad g b.engine.pager block → ⊥)
+      → IsCause m n last (is_bad g b.engine.pager) (IsWornIn g a.engine.pager) fault → IsStepFault (fault_of fault) c (view_of g b)
+  flush_fails m n last a b c map.DeviceFault known waits same good h = tt
+  flush_fails m n last a b c (map.Damaged block) known waits same good h = good block h
+  flush_fails m n last a b c (map.Worn which) known waits same good h = subst (λ (v : View). IsWornInStep which c v) (sym same) (worn_in_step a which c known waits h)
+  flush_fails m n last a b c map.NoMemory known waits same good h = tt
 
-  worn_shows : (b : Volume D) (which : Counter) (count : ℕ) (c : Command) → IsWornIn g b.engine.pager which → ShowsWorn g which count c b.engine
-  worn_shows b Count count c h = absurd (never_counted (AreKnownIn b.engine.pager) (view_of g b).tree Count (λ step w. w) (λ e. cc) h)
-  worn_shows b NextId count c h = inl h
-  worn_shows b Level count c h = inl h
-  worn_shows b Refs count c h = inl h
-  worn_shows b Epoch count c h = absurd (never_counted (AreKnownIn b.engine.pager) (view_of g b).tree Epoch (λ step w. w) (λ e. cc) h)
-  worn_shows b Flushes count c h = absurd (never_counted (AreKnownIn b.engine.pager) (view_of g b).tree Flushes (λ step w. w) (λ e. cc) h)
+  worn_shows : (b : Volume D) (which : Counter) (c : Command) → waiting_limit c < (table_of b.engine.pager).size → IsWornIn g b.engine.pager which → ShowsWornIn g which c b.engine
+  worn_shows b Count c waits h = absurd (never_counted (AreKnownIn b.engine.pager) (view_of g b).tree Count (λ step w. w) (λ e. cc) h)
+  worn_shows b NextId c waits h = inl (record { waits = waits; worn = h })
+  worn_shows b Level c waits h = inl (record { waits = waits; worn = h })
+  worn_shows b Refs c waits h = inl (record { waits = waits; worn = h })
+  worn_shows b Epoch c waits h = absurd (never_counted (AreKnownIn b.engine.pager) (view_of g b).tree Epoch (λ step w. w) (λ e. cc) h)
+  worn_shows b Flushes c waits h = absurd (never_counted (AreKnownIn b.engine.pager) (view_of g b).tree Flushes (λ step w. w) (λ e. cc) h)
 
-  pub flush_shows : (m n : ℕ) (a b : Volume D) (count : ℕ) (c : Command) (fault : MapFault) → IsReadOf g a.engine.pager b.engine.pager → IsCause m n (is_bad g b.engine.pager) (IsWornIn g a.engine.pager) fault → ShowsFault g (fault_of fault) count c b.engine
-  flush_shows m n a b count c map.DeviceFault read h = tt
-  flush_shows m n a b count c (map.Damaged block) read h = tt
-  flush_shows m n a b count c (map.Worn which) read h = worn_shows b which count c (read_worn g a.engine.pager b.engine.pager which read h)
-  flush_shows m n a b count c map.NoMemory read h = tt
+  pub flush_shows : (m n : ℕ) (last : Bool) (a b : Volume D) (c : Command) (fault : MapFault) → waiting_limit c < (table_of a.engine.pager).size → IsReadOf g a.engine.pager b.engine.pager
+      → IsCause m n last (is_bad g b.engine.pager) (IsWornIn g a.engine.pager) fault → ShowsStep g (fault_of fault) c b.engine
+  flush_shows m n last a b c map.DeviceFault waits read h = tt
+  flush_shows m n last a b c (map.Damaged block) waits read h = tt
+  flush_shows m n last a b c (map.Worn which) waits read h =
+      worn_shows b which c (subst (λ (t : Table). waiting_limit c < t.size) (sym (read_table g a.engine.pager b.engine.pager read)) waits) (read_worn g a.engine.pager b.engine.pager which read h)
+  flush_shows m n last a b c map.NoMemory waits read h = tt
 
   -- ---- reads, messages and grafts
 
   -- calls that wear no counter
-  pub read_halts : (m n : ℕ) (b : Volume D) (count : ℕ) (c : Command) (old new : View) (fault : MapFault) → ((block : ℕ) → is_bad g b.engine.pager block → ⊥) → IsCause m n (is_bad g b.engine.pager) NeverWorn fault → IsCommandFault (fault_of fault) count c old new
-  read_halts m n b count c old new map.DeviceFault good h = tt
-  read_halts m n b count c old new (map.Damaged block) good h = good block h
-  read_halts m n b count c old new (map.Worn which) good h = absurd h
-  read_halts m n b count c old new map.NoMemory good h = tt
+  pub read_halts : (m n : ℕ) (last : Bool) (b : Volume D) (count : ℕ) (c : Command) (old new : View) (fault : MapFault) → ((block : ℕ) → is_bad g b.engine.pager block → ⊥) → IsCause m n last (is_bad g b.engine.pager) NeverWorn fault → IsCommandFault (fault_of fault) count c old new
+  read_halts m n last b count c old new map.DeviceFault good h = tt
+  read_halts m n last b count c old new (map.Damaged block) good h = good block h
+  read_halts m n last b count c old new (map.Worn which) good h = absurd h
+  read_halts m n last b count c old new map.NoMemory good h = tt
 
-  pub graft_halts : (m n : ℕ) (worn : Counter → Type 0) (b : Volume D) (count : ℕ) (c : Command) (old v : View) (s d : List ℕ) (keep : Bool) (fault : MapFault) → IsTrue (writes c) → IsPlanKind c (Graft s d keep) → HasStepped c old v → v.tree.table.size ≤ waiting_limit c
-      → view_of g b ≡ v → ((block : ℕ) → is_bad g b.engine.pager block → ⊥) → IsCause m n (is_bad g b.engine.pager) worn fault → OnWorn (IsWornByGraft v.tree.nodes v.tree.table s d keep) fault → IsCommandFault (fault_of fault) count c old (view_of g b)
-  graft_halts m n worn b count c old v s d keep map.DeviceFault writing kind stepped enough same good h by = tt
-  graft_halts m n worn b count c old v s d keep (map.Damaged block) writing kind stepped enough same good h by = good block h
-  graft_halts m n worn b count c old v s d keep (map.Worn which) writing kind stepped enough same good h by =
+  pub graft_halts : (m n : ℕ) (last : Bool) (worn : Counter → Type 0) (b : Volume D) (count : ℕ) (c : Command) (old v : View) (s d : List ℕ) (keep : Bool) (fault : MapFault) → IsTrue (writes c) → IsPlanKind c (Graft s d keep) → HasStepped c old v → v.tree.table.size ≤ waiting_limit c
+      → view_of g b ≡ v → ((block : ℕ) → is_bad g b.engine.pager block → ⊥) → IsCause m n last (is_bad g b.engine.pager) worn fault → OnWorn (IsWornByGraft v.tree.nodes v.tree.table s d keep) fault → IsCommandFault (fault_of fault) count c old (view_of g b)
+  graft_halts m n last worn b count c old v s d keep map.DeviceFault writing kind stepped enough same good h by = tt
+  graft_halts m n last worn b count c old v s d keep (map.Damaged block) writing kind stepped enough same good h by = good block h
+  graft_halts m n last worn b count c old v s d keep (map.Worn which) writing kind stepped enough same good h by =
       subst (λ (w : View). Wears which count c old w) (sym same) (record {
         counts = writing;
         stepped = stepped;
         worn = worn_graft which count c stepped.made old v s d keep by (worn_kind (kind_of c) which c v.tree s d keep kind enough by);
       })
-  graft_halts m n worn b count c old v s d keep map.NoMemory writing kind stepped enough same good h by = tt
+  graft_halts m n last worn b count c old v s d keep map.NoMemory writing kind stepped enough same good h by = tt
 
-  graft_worn_shows : (b : Volume D) (which : Counter) (count : ℕ) (c : Command) → IsWornForGraft (table_of b.engine.pager) which → ShowsWorn g which count c b.engine
-  graft_worn_shows b Count count c h = absurd h
-  graft_worn_shows b NextId count c h = inr h
-  graft_worn_shows b Level count c h = inr h
-  graft_worn_shows b Refs count c h = inr h
-  graft_worn_shows b Epoch count c h = absurd h
-  graft_worn_shows b Flushes count c h = absurd h
+  -- a graft is planned for a command that is one
+  plan_grafts : (kind : Kind) (s1 d1 : List ℕ) (keep : Bool) → IsPlanOf kind (Graft s1 d1 keep) → IsGraftKind kind
+  plan_grafts Reads s1 d1 keep plan = absurd plan
+  plan_grafts Sends s1 d1 keep plan = absurd plan
+  plan_grafts SendsLate s1 d1 keep plan = absurd plan
+  plan_grafts (Grafts s2 d2 keep2) s1 d1 keep plan = tt
 
-  pub graft_shows : (m n : ℕ) (a b : Volume D) (count : ℕ) (c : Command) (fault : MapFault) → IsReadOf g a.engine.pager b.engine.pager → IsCause m n (is_bad g b.engine.pager) (IsWornForGraft (table_of a.engine.pager)) fault → ShowsFault g (fault_of fault) count c b.engine
-  graft_shows m n a b count c map.DeviceFault read h = tt
-  graft_shows m n a b count c (map.Damaged block) read h = tt
-  graft_shows m n a b count c (map.Worn which) read h =
-      graft_worn_shows b which count c (subst (λ (t : Table). IsWornForGraft t which) (sym (read_table g a.engine.pager b.engine.pager read)) h)
-  graft_shows m n a b count c map.NoMemory read h = tt
+  graft_worn_shows : (b : Volume D) (which : Counter) (c : Command) → (table_of b.engine.pager).size ≤ waiting_limit c → IsGraftKind (kind_of c) → IsWornForGraft (table_of b.engine.pager) which → ShowsWornIn g which c b.engine
+  graft_worn_shows b Count c enough grafts h = absurd h
+  graft_worn_shows b NextId c enough grafts h = inr (record { enough = enough; grafts = grafts; worn = h })
+  graft_worn_shows b Level c enough grafts h = inr (record { enough = enough; grafts = grafts; worn = h })
+  graft_worn_shows b Refs c enough grafts h = inr (record { enough = enough; grafts = grafts; worn = h })
+  graft_worn_shows b Epoch c enough grafts h = absurd h
+  graft_worn_shows b Flushes c enough grafts h = absurd h
+
+  pub graft_shows : (m n : ℕ) (last : Bool) (a b : Volume D) (count before : ℕ) (c : Command) (s1 d1 : List ℕ) (keep : Bool) (fault : MapFault) → IsPlanKind c (Graft s1 d1 keep) → (table_of a.engine.pager).size ≤ waiting_limit c → IsReadOf g a.engine.pager b.engine.pager
+      → IsCause m n last (is_bad g b.engine.pager) (IsWornForGraft (table_of a.engine.pager)) fault → ShowsFault g (fault_of fault) count before c b.engine
+  graft_shows m n last a b count before c s1 d1 keep map.DeviceFault kind enough read h = tt
+  graft_shows m n last a b count before c s1 d1 keep (map.Damaged block) kind enough read h = tt
+  graft_shows m n last a b count before c s1 d1 keep (map.Worn which) kind enough read h =
+      let same : table_of b.engine.pager ≡ table_of a.engine.pager = read_table g a.engine.pager b.engine.pager read in
+      worn_shows_step which count before c b.engine (graft_worn_shows b which c (subst (λ (t : Table). t.size ≤ waiting_limit c) (sym same) enough) (plan_grafts (kind_of c) s1 d1 keep kind)
+      (subst (λ (t : Table). IsWornForGraft t which) (sym same) h))
+  graft_shows m n last a b count before c s1 d1 keep map.NoMemory kind enough read h = tt

@@ -15,3 +15,4 @@ pub mod Started
 pub mod Starts
 pub mod Stepped
 pub mod Synced
+pub mod Writes

@@ -8,12 +8,15 @@ use Rattle.bd_device.specs.Blocks.{Image}
 use Rattle.bd_device.specs.declared.device.Device.{Ghosts}
 use Rattle.bd_node.specs.Tables.{Table, IsSound, root_at}
 use Rattle.bd_step.specs.Steps.{IsWornToFlush}
+use Rattle.bd_cover.specs.declared.walking.Reclaim.{Reclaim}
+use Rattle.bd_reclaim.specs.Changes.{IsWornChange}
 use Rattle.bd_log.specs.Logs.{LogState}
 use Rattle.bd_pager.specs.Calling.{read_table}
 use Rattle.bd_pager.specs.Places.{Spots, nodes_at}
 use Rattle.bd_pager.specs.Pagers.{Paged, spots_of, table_of, IsKnownOver, IsReadOf}
 use Rattle.bd_view.specs.Views.{View}
 use Rattle.bd_engine.specs.Engines.{EngineState, keys_of, IsSoundOn, IsWornIn, IsReadOn}
+use Rattle.bd_engine.specs.Reclaiming.{IsWornToChange}
 use Rattle.bd_volume.specs.declared.volume.Volume.{Volume}
 use Rattle.bd_volume.specs.Volume.{StandsFor, IsSafeOn, count_of}
 
@@ -27,6 +30,12 @@ module _ {D : Type 0} (g : Ghosts D) where
   pub read_worn : (p q : Paged D) (which : Counter) → IsReadOf g p q → IsWornIn g p which → IsWornIn g q which
   read_worn p q which r h =
       let Is : Option Image → Spots → Table → Type 0 = λ o s t. IsWornToFlush (IsKnownOver o s × IsSound (nodes_at o s) t) (nodes_at o s) t which in
+      subst (λ (t : Table). Is (g.contents q.dev) (spots_of q) t) (sym (read_table g p q r))
+      (subst (λ (s : Spots). Is (g.contents q.dev) s (table_of p)) (sym r.spots) (subst (λ (o : Option Image). Is o (spots_of p) (table_of p)) (sym r.device.kept) h))
+
+  pub read_change : (p q : Paged D) (step : Reclaim) (which : Counter) → IsReadOf g p q → IsWornToChange g p step which → IsWornToChange g q step which
+  read_change p q step which r h =
+      let Is : Option Image → Spots → Table → Type 0 = λ o s t. IsWornChange (IsKnownOver o s × IsSound (nodes_at o s) t) (nodes_at o s) t step which in
       subst (λ (t : Table). Is (g.contents q.dev) (spots_of q) t) (sym (read_table g p q r))
       (subst (λ (s : Spots). Is (g.contents q.dev) s (table_of p)) (sym r.spots) (subst (λ (o : Option Image). Is o (spots_of p) (table_of p)) (sym r.device.kept) h))
 

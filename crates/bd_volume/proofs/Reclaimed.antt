@@ -5,17 +5,19 @@ use Rattle.bd_model.specs.Tree.{Tree}
 use Rattle.bd_message.specs.declared.fault.Counter.{Counter}
 use Rattle.bd_message.specs.declared.fault.Counter.TheVariants.{Epoch}
 use Rattle.bd_device.specs.declared.device.Device.{Ghosts}
+use Rattle.bd_super.specs.declared.superblock.Super.{Super}
 use Rattle.bd_view.specs.Views.{View}
 use Rattle.bd_view.specs.Moves.{Saves, IsCheckpointFull}
 use Rattle.bd_view.specs.Reclaiming.{AreReclaims, HasReclaimed, IsReclaim, IsReclaimFull}
 use Rattle.bd_view.specs.Reclaiming.IsReclaimFull.{first, edge, last}
+use Rattle.bd_engine.specs.Engines.{EngineState}
 use Rattle.bd_volume.specs.declared.fault.Fault.{Fault}
 use Rattle.bd_volume.specs.declared.fault.Fault.TheVariants.{Device, Damaged, Worn, NoMemory, Full, Stopped}
 use Rattle.bd_volume.specs.declared.volume.Volume.{Volume}
 use Rattle.bd_volume.specs.Faults.{HasFaultCause}
 use Rattle.bd_volume.specs.Reclaims.{ChangesAll, StopsChanging, IsReclaimFault, ShowsEdge, ShowsReclaim}
 use Rattle.bd_volume.specs.Volume.{StandsFor, view_of, stop_of}
-use Rattle.bd_volume.specs.Wears.{HasBegunReclaiming, IsWornToReclaim}
+use Rattle.bd_volume.specs.Wears.{HasBegunReclaiming, IsWornToReclaim, ShowsWornToReclaim}
 
 reclaimed : (pushes : ℕ) (a b c : View) → Saves a b → AreReclaims pushes b c → HasReclaimed pushes a c
 reclaimed pushes a b c saves changes = record { first = b; begins = saves; changes = changes }
@@ -48,13 +50,13 @@ between_fails (Full free need) a b c saves h =
     edge h.pushes h.cause.change c (reclaimed h.pushes a b c saves h.changes) h.cause.next h.cause.short h.cause.free_is h.cause.need_is h.cause.unsaved
 between_fails (Stopped call) a b c saves h = h.cause
 
-pub between_shows : (fault : Fault) (v : View) → ShowsEdge fault v → ShowsReclaim fault v
-between_shows Device v h = tt
-between_shows (Damaged block) v h = tt
-between_shows (Worn which) v h = tt
-between_shows NoMemory v h = tt
-between_shows (Full free need) v h = (h.0, inr h.1)
-between_shows (Stopped call) v h = tt
+pub between_shows : {D : Type 0} (g : Ghosts D) (fault : Fault) (e : EngineState D) → ShowsEdge g fault e → ShowsReclaim g fault e
+between_shows g Device e h = tt
+between_shows g (Damaged block) e h = tt
+between_shows g (Worn which) e h = h
+between_shows g NoMemory e h = tt
+between_shows g (Full free need) e h = (h.0, inr h.1)
+between_shows g (Stopped call) e h = tt
 
 full_begun : (a d : View) (free need : ℕ) → IsReclaimFull a free need d → HasBegunReclaiming a d
 full_begun a d free need (first full) = inl refl
@@ -82,6 +84,7 @@ module _ {D : Type 0} (g : Ghosts D) where
     pub unmoved : OnErr r ((t : Tree) (n : ℕ) → StandsFor g a t n → view_of g b ≡ view_of g a)
     pub full : (free need : ℕ) → r ≡ Err (Full free need) → IsCheckpointFull (view_of g a) free need × (b ≡ a)
     pub wears : (which : Counter) → r ≡ Err (Worn which) → (which ≡ Epoch) × (2 ^ 64 ≤ (view_of g a).epoch + 1)
+    pub unsaved : OnErr r (b.engine.live ≡ a.engine.live)
     pub undamaged : (block : ℕ) → r ≡ Err (Damaged block) → ⊥
     pub cause : HasFaultCause g a b r
 
@@ -100,13 +103,15 @@ module _ {D : Type 0} (g : Ghosts D) where
       subst (λ (v : Volume D). IsReclaimFull (view_of g a) free need (view_of g v)) (sym (h.full free need refl).1) (first (h.full free need refl).0)
   first_fails a b (Stopped call) h t n s = not_stopped a call h.going h.cause.failed.0
 
-  pub save_shows : {T : Type 0} (a b : Volume D) (fault : Fault) → IsCheckpointOf {T = T} a b (Err fault) → ShowsReclaim fault (view_of g b)
+  pub save_shows : {T : Type 0} (a b : Volume D) (fault : Fault) → IsCheckpointOf {T = T} a b (Err fault) → ShowsReclaim g fault b.engine
   save_shows a b Device h = tt
   save_shows a b (Damaged block) h = tt
-  save_shows a b (Worn which) h = tt
+  save_shows a b (Worn which) h =
+      subst (λ (w : Counter). ShowsWornToReclaim g w b.engine) (sym (h.wears which refl).0)
+      (subst (λ (live : Super). 2 ^ 64 ≤ live.epoch + 1) (sym h.unsaved) (h.wears which refl).1)
   save_shows a b NoMemory h = tt
   save_shows a b (Full free need) h =
-      subst (λ (v : Volume D). ShowsReclaim (Full free need) (view_of g v)) (sym (h.full free need refl).1) ((h.full free need refl).0.free_is, inl (h.full free need refl).0.need_is)
+      subst (λ (v : Volume D). ShowsReclaim g (Full free need) v.engine) (sym (h.full free need refl).1) ((h.full free need refl).0.free_is, inl (h.full free need refl).0.need_is)
   save_shows a b (Stopped call) h = tt
 
   -- at its last checkpoint
@@ -129,7 +134,7 @@ module _ {D : Type 0} (g : Ghosts D) where
 
   -- ---- by results
 
-  pub saves_show : {T : Type 0} (r : Result T Fault) (a b : Volume D) → IsCheckpointOf a b r → IfErr r (λ fault. ShowsReclaim fault (view_of g b))
+  pub saves_show : {T : Type 0} (r : Result T Fault) (a b : Volume D) → IsCheckpointOf a b r → IfErr r (λ fault. ShowsReclaim g fault b.engine)
   saves_show (Ok x) a b h = tt
   saves_show (Err e) a b h = save_shows a b e h
 

@@ -1,5 +1,5 @@
 -- Changes of reclaiming, one after the other, and why they stop.
-use Rattle.std.proofs.Common.{◌≡◌, ℕ, zero, suc, ◌+◌, ◌*◌, ◌^◌, ◌<◌, ◌≤◌, None, Bool, refl, sym, subst, ap, inl, inr, arith}
+use Rattle.std.proofs.Common.{◌≡◌, ℕ, zero, suc, ◌+◌, ◌*◌, ◌^◌, ◌<◌, ◌≤◌, None, Some, Bool, refl, sym, subst, ap, inl, inr, arith}
 use Rattle.std.proofs.lemmas.Bool.{cases_lt, ltb-true, and_parts}
 use Rattle.std.specs.Prelude.{IsTrue, nat_le, nat_lt, ⊤}
 use Rattle.bd_message.specs.declared.fault.Counter.{Counter}
@@ -23,11 +23,18 @@ use Rattle.bd_view.specs.Moves.{Saves}
 use Rattle.bd_view.specs.Reclaiming.{push_limit, allows_push, push_need, pushes_in, HasRoomFor, IsNextChange, HasNoChange, Reclaims, AreReclaims}
 use Rattle.bd_view.specs.Reclaiming.AreReclaims.{change, save}
 use Rattle.bd_view.proofs.Saved.{saves_all}
+use Rattle.bd_device.specs.declared.device.Device.{Ghosts}
+use Rattle.bd_pager.specs.Pagers.{nodes_of, table_of, is_known, IsReadOf}
+use Rattle.bd_engine.specs.Engines.{EngineState, view_of as view_in}
+use Rattle.bd_engine.specs.Reclaiming.{MayMake, IsWornToChange}
+use Rattle.bd_engine.proofs.Reclaims.{may_after}
 use Rattle.bd_volume.specs.declared.fault.Fault.{Fault}
+use Rattle.bd_volume.specs.declared.fault.Fault.TheVariants.{Device, Damaged, Worn, NoMemory, Full, Stopped}
 use Rattle.bd_volume.specs.Faults.{fault_of}
-use Rattle.bd_volume.specs.Reclaims.{ChangesOnce, IsChangedTo, ChangesAll, IsChangeFault, StopsChanging}
+use Rattle.bd_volume.specs.Reclaims.{ChangesOnce, IsChangedTo, IsPushedTo, ChangesAll, IsEdgeSaveFault, IsChangeFault, StopsChanging, ShowsEdge}
 use Rattle.bd_volume.specs.Reclaims.ChangesOnce.{made, saved}
-use Rattle.bd_volume.specs.Wears.{IsWornToReclaim}
+use Rattle.bd_volume.specs.Wears.{IsWornToReclaim, ShowsWornChange, ShowsWornToReclaim}
+use Rattle.bd_volume.proofs.Read.{read_change}
 
 -- ---- pushes
 
@@ -80,36 +87,42 @@ flag_some : (n : ℕ) → 1 ≤ n → flag n ≡ 1
 flag_some zero some = absurd (omega (arith, some))
 flag_some (suc n) some = refl
 
--- so many changes and checkpoints were made, so many of them pushes, and what is left to change is
--- bounded
-pub record IsWithin (made pushes : ℕ) (v : View) : Type 0 where
-  pub fuel : made + 2 * left_over v.tree.nodes v.tree.table + flag (changed_count v) ≤ (pushes + 1) * 2 ^ 92
-  pub few : pushes ≤ push_limit
+-- so many changes and checkpoints were made since the last push, and with what is left to change
+-- they are fewer than so many
+abbrev pub IsWithin : ℕ → ℕ → View → Type 0
+IsWithin count most v = count + 2 * left_over v.tree.nodes v.tree.table + flag (changed_count v) + 1 ≤ most
 
-pub within_first : (v : View) → left_over v.tree.nodes v.tree.table < 2 ^ 90 → IsWithin 0 0 v
-within_first v low = record { fuel = omega (arith, low, flag_few (changed_count v)); few = omega arith }
+pub within_first : (v : View) (left most : ℕ) → left_over v.tree.nodes v.tree.table ≤ left → most ≡ 2 * left + 2 → IsWithin 0 most v
+within_first v left most low is = omega (arith, low, is, flag_few (changed_count v))
 
-pub within_end : {A : Type 0} (count pushes : ℕ) (v : View) → IsWithin count pushes v → 2 ^ 128 ≤ count + 1 → A
-within_end count pushes v h many = absurd (omega (arith, h.fuel, h.few, many))
+pub within_end : {A : Type 0} (count most : ℕ) (v : View) → IsWithin count most v → most ≤ count → A
+within_end count most v h many = absurd (omega (arith, h, many))
 
--- what a change leaves, by its kind
-made_fuel : (step : Reclaim) (count before lo ln fo fn : ℕ) → IfPush (λ above node place. ⊤) (ln < lo) step → ln < 2 ^ 90 → fn ≤ 1 → count + 2 * lo + fo ≤ (before + 1) * 2 ^ 92 → count + 1 + 2 * ln + fn ≤ (before + pushes_in step + 1) * 2 ^ 92
-made_fuel (Shrink child) count before lo ln fo fn less low flag h = omega (arith, less, flag, h)
-made_fuel (Drop node place at) count before lo ln fo fn less low flag h = omega (arith, less, flag, h)
-made_fuel (Redirect node place at) count before lo ln fo fn less low flag h = omega (arith, less, flag, h)
-made_fuel (Push above node place) count before lo ln fo fn less low flag h = omega (arith, low, flag, h)
+-- what a change leaves that is no push
+made_less : (step : Reclaim) (count before after lo ln fo fn most : ℕ) → IfPush (λ above node place. ⊤) (ln < lo) step → after ≡ before + pushes_in step → (before < after → ⊥) → fn ≤ 1 → count + 2 * lo + fo + 1 ≤ most → count + 1 + 2 * ln + fn + 1 ≤ most
+made_less (Shrink child) count before after lo ln fo fn most less is unpushed low h = omega (arith, less, low, h)
+made_less (Drop node place at) count before after lo ln fo fn most less is unpushed low h = omega (arith, less, low, h)
+made_less (Redirect node place at) count before after lo ln fo fn most less is unpushed low h = omega (arith, less, low, h)
+made_less (Push above node place) count before after lo ln fo fn most less is unpushed low h = absurd (unpushed (omega (arith, is)))
 
-pub within_next : (count before after : ℕ) (old new : View) → IsWithin count before old → ChangesOnce before after old new → left_over new.tree.nodes new.tree.table < 2 ^ 90 → IsWithin (count + 1) after new
-within_next count before after old new h (made step done less is) low =
-    subst (λ (n : ℕ). IsWithin (count + 1) n new) (sym is) (record {
-      fuel = made_fuel step count before (left_over old.tree.nodes old.tree.table) (left_over new.tree.nodes new.tree.table) (flag (changed_count old)) (flag (changed_count new)) less low (flag_few (changed_count new)) h.fuel;
-      few = next_few before step old done.next h.few;
-    })
-within_next count before after old new h (saved step done some is) low =
+pub within_next : (count most before after : ℕ) (old new : View) → IsWithin count most old → ChangesOnce before after old new → (before < after → ⊥) → IsWithin (count + 1) most new
+within_next count most before after old new h (made step done less is) unpushed =
+    made_less step count before after (left_over old.tree.nodes old.tree.table) (left_over new.tree.nodes new.tree.table) (flag (changed_count old)) (flag (changed_count new)) most less is unpushed (flag_few (changed_count new)) h
+within_next count most before after old new h (saved step done some is) unpushed =
     let left : left_over new.tree.nodes new.tree.table ≡ left_over old.tree.nodes old.tree.table = ap (λ (v : View). left_over v.tree.nodes v.tree.table) done.saves.after in
     let clean : flag (changed_count new) ≡ 0 = ap flag (saves_all old new done.saves) in
     let dirty : flag (changed_count old) ≡ 1 = flag_some (changed_count old) some in
-    subst (λ (n : ℕ). IsWithin (count + 1) n new) (sym is) (record { fuel = omega (arith, left, clean, dirty, h.fuel); few = h.few })
+    omega (arith, left, clean, dirty, h)
+
+-- pushes don't become too many
+once_few : (before after : ℕ) (old new : View) → ChangesOnce before after old new → before ≤ push_limit → after ≤ push_limit
+once_few before after old new (made step done less is) few = omega (arith, is, next_few before step old done.next few)
+once_few before after old new (saved step done some is) few = omega (arith, is, few)
+
+-- nor fewer
+once_same : (before after : ℕ) (old new : View) → ChangesOnce before after old new → (before < after → ⊥) → after ≡ before
+once_same before after old new (made step done less is) unpushed = elim (cases_lt before after) [ inl more ↦ absurd (unpushed more) | inr few ↦ omega (arith, is, few) ]
+once_same before after old new (saved step done some is) unpushed = is
 
 -- ---- changes, one after the other
 
@@ -117,12 +130,20 @@ pub changed_more : (before after : ℕ) (a b d : View) → AreReclaims before a 
 changed_more before after a b d h (made step done less is) = subst (λ (n : ℕ). AreReclaims n a d) (sym is) (change before step a b d h done)
 changed_more before after a b d h (saved step done some is) = subst (λ (n : ℕ). AreReclaims n a d) (sym is) (save before step a b d h done)
 
-pub changed_all : (pushes : ℕ) (a b d : View) → AreReclaims pushes a b → IsChangedTo pushes None b d → ChangesAll a d
-changed_all pushes a b d h last = record {
-  pushes = pushes;
-  changes = subst (λ (v : View). AreReclaims pushes a v) (sym last.0) h;
-  whole = last.1;
-}
+-- no push was made
+pub changed_on : (pushes after : ℕ) (a b d : View) → AreReclaims pushes a b → ChangesOnce pushes after b d → (pushes < after → ⊥) → AreReclaims pushes a d
+changed_on pushes after a b d h once unpushed = subst (λ (n : ℕ). AreReclaims n a d) (once_same pushes after b d once unpushed) (changed_more pushes after a b d h once)
+
+-- one was made
+pub pushed_to : (pushes after : ℕ) (a b d : View) → AreReclaims pushes a b → ChangesOnce pushes after b d → pushes < after → pushes ≤ push_limit → IsPushedTo pushes (Some after) a d
+pushed_to pushes after a b d h once more few = (changed_more pushes after a b d h once, more, once_few pushes after b d once few)
+
+-- none is left
+pub changed_last : (pushes : ℕ) (a b d : View) → AreReclaims pushes a b → IsChangedTo pushes None b d → IsPushedTo pushes None a d
+changed_last pushes a b d h last = (subst (λ (v : View). AreReclaims pushes a v) (sym last.0) h, last.1)
+
+pub changed_all : (pushes : ℕ) (a d : View) → IsPushedTo pushes None a d → ChangesAll a d
+changed_all pushes a d h = record { pushes = pushes; changes = h.0; whole = h.1 }
 
 pub stops_changing : (fault : Fault) (pushes : ℕ) (a b d : View) → AreReclaims pushes a b → d ≡ b → IsChangeFault fault pushes d → StopsChanging fault a d
 stops_changing fault pushes a b d h same cause = record {
@@ -169,6 +190,7 @@ worn_where K L nodes t (Push above node place) which knows h = record {
   step = h.step;
   begins = h.begins;
   due = h.due;
+  way = h.way;
   stands = λ l. h.stands (knows l);
   reached = λ l. h.reached (knows l);
   worn = elim h.worn [
@@ -187,16 +209,57 @@ worn_next K Epoch pushes step v knows next h = absurd (never_by_change K v.tree.
 worn_next K Flushes pushes step v knows next h = never_by_change K v.tree.nodes v.tree.table step Flushes (λ one w. w) (λ e. cc) h
 
 -- looking for it failed
-pub look_fails : (m n : ℕ) (bad : ℕ → Type 0) (pushes : ℕ) (v : View) (fault : MapFault) → ((block : ℕ) → bad block → ⊥) → IsCause m n bad NeverWorn fault → IsChangeFault (fault_of fault) pushes v
-look_fails m n bad pushes v map.DeviceFault good h = tt
-look_fails m n bad pushes v (map.Damaged block) good h = good block h
-look_fails m n bad pushes v (map.Worn which) good h = absurd h
-look_fails m n bad pushes v map.NoMemory good h = tt
+pub look_fails : (m n : ℕ) (last : Bool) (bad : ℕ → Type 0) (pushes : ℕ) (v : View) (fault : MapFault) → ((block : ℕ) → bad block → ⊥) → IsCause m n last bad NeverWorn fault → IsChangeFault (fault_of fault) pushes v
+look_fails m n last bad pushes v map.DeviceFault good h = tt
+look_fails m n last bad pushes v (map.Damaged block) good h = good block h
+look_fails m n last bad pushes v (map.Worn which) good h = absurd h
+look_fails m n last bad pushes v map.NoMemory good h = tt
 
 -- it couldn't be made
-pub change_fails : (K : Type 0) (m n : ℕ) (bad : ℕ → Type 0) (pushes : ℕ) (step : Reclaim) (a b : View) (fault : MapFault) → ((block : ℕ) → bad block → ⊥) → (IsSound a.tree.nodes a.tree.table → K) → IsNextChange pushes step a → b ≡ a
-    → IsCause m n bad (IsWornChange K a.tree.nodes a.tree.table step) fault → IsChangeFault (fault_of fault) pushes b
-change_fails K m n bad pushes step a b map.DeviceFault good knows next same h = tt
-change_fails K m n bad pushes step a b (map.Damaged block) good knows next same h = good block h
-change_fails K m n bad pushes step a b (map.Worn which) good knows next same h = subst (λ (v : View). IsWornToReclaim which v) (sym same) (worn_next K which pushes step a knows next h)
-change_fails K m n bad pushes step a b map.NoMemory good knows next same h = tt
+pub change_fails : (K : Type 0) (m n : ℕ) (last : Bool) (bad : ℕ → Type 0) (pushes : ℕ) (step : Reclaim) (a b : View) (fault : MapFault) → ((block : ℕ) → bad block → ⊥) → (IsSound a.tree.nodes a.tree.table → K) → IsNextChange pushes step a → b ≡ a
+    → IsCause m n last bad (IsWornChange K a.tree.nodes a.tree.table step) fault → IsChangeFault (fault_of fault) pushes b
+change_fails K m n last bad pushes step a b map.DeviceFault good knows next same h = tt
+change_fails K m n last bad pushes step a b (map.Damaged block) good knows next same h = good block h
+change_fails K m n last bad pushes step a b (map.Worn which) good knows next same h = subst (λ (v : View). IsWornToReclaim which v) (sym same) (worn_next K which pushes step a knows next h)
+change_fails K m n last bad pushes step a b map.NoMemory good knows next same h = tt
+
+-- ---- what is told of nodes that may not be known
+
+module _ {D : Type 0} (g : Ghosts D) where
+  -- looking for a change wears no counter
+  pub look_shows : (m n : ℕ) (last : Bool) (bad : ℕ → Type 0) (e : EngineState D) (fault : MapFault) → IsCause m n last bad NeverWorn fault → ShowsEdge g (fault_of fault) e
+  look_shows m n last bad e map.DeviceFault h = tt
+  look_shows m n last bad e (map.Damaged block) h = tt
+  look_shows m n last bad e (map.Worn which) h = absurd h
+  look_shows m n last bad e map.NoMemory h = tt
+
+  -- a change may be made as before, and wears what it wore
+  change_worn : (a b : EngineState D) (step : Reclaim) (which : Counter) → MayMake g a.pager step → IsReadOf g a.pager b.pager → IsWornToChange g a.pager step which → ShowsWornChange g which b
+  change_worn a b step which may read h = record {
+    change = step;
+    may = may_after g a.pager b.pager step read may.to_do (λ known sound. may.at (record { known = known; sound = sound }));
+    worn = read_change g a.pager b.pager step which read h;
+  }
+
+  worn_shows : (a b : EngineState D) (step : Reclaim) (which : Counter) → MayMake g a.pager step → IsReadOf g a.pager b.pager → IsWornToChange g a.pager step which → ShowsWornToReclaim g which b
+  worn_shows a b step Count may read h = never_by_change (is_known g a.pager × IsSound (nodes_of g a.pager) (table_of a.pager)) (nodes_of g a.pager) (table_of a.pager) step Count (λ one w. w) (λ e. cc) h
+  worn_shows a b step NextId may read h = change_worn a b step NextId may read h
+  worn_shows a b step Level may read h = change_worn a b step Level may read h
+  worn_shows a b step Refs may read h = change_worn a b step Refs may read h
+  worn_shows a b step Epoch may read h = absurd (never_by_change (is_known g a.pager × IsSound (nodes_of g a.pager) (table_of a.pager)) (nodes_of g a.pager) (table_of a.pager) step Epoch (λ one w. w) (λ e. cc) h)
+  worn_shows a b step Flushes may read h = never_by_change (is_known g a.pager × IsSound (nodes_of g a.pager) (table_of a.pager)) (nodes_of g a.pager) (table_of a.pager) step Flushes (λ one w. w) (λ e. cc) h
+
+  pub change_shows : (m n : ℕ) (last : Bool) (bad : ℕ → Type 0) (a b : EngineState D) (step : Reclaim) (fault : MapFault) → MayMake g a.pager step → IsReadOf g a.pager b.pager → IsCause m n last bad (IsWornToChange g a.pager step) fault → ShowsEdge g (fault_of fault) b
+  change_shows m n last bad a b step map.DeviceFault may read h = tt
+  change_shows m n last bad a b step (map.Damaged block) may read h = tt
+  change_shows m n last bad a b step (map.Worn which) may read h = worn_shows a b step which may read h
+  change_shows m n last bad a b step map.NoMemory may read h = tt
+
+  -- a checkpoint for the change of an edge
+  pub edge_shows : (e : EngineState D) (fault : Fault) → IsEdgeSaveFault fault (view_in g e) → ShowsEdge g fault e
+  edge_shows e Device h = tt
+  edge_shows e (Damaged block) h = tt
+  edge_shows e (Worn which) h = subst (λ (w : Counter). ShowsWornToReclaim g w e) (sym h.0) h.1
+  edge_shows e NoMemory h = tt
+  edge_shows e (Full free need) h = (h.0, h.1)
+  edge_shows e (Stopped call) h = tt

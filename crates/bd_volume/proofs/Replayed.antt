@@ -1,9 +1,8 @@
 -- Commands of the log, replayed one after the other.
-use Rattle.std.proofs.Common.{◌≡◌, ℕ, ◌+◌, ◌<◌, ◌≤◌, ◌^◌, Bool, false, List, [], ◌∷◌, ◌++◌, length, None, Some, refl, sym, subst, ap, ◌∙◌, inl, inr, arith, lit≤, append_assoc}
+use Rattle.std.proofs.Common.{◌≡◌, ℕ, ◌+◌, ◌*◌, ◌<◌, ◌≤◌, ◌^◌, Bool, false, List, [], ◌∷◌, ◌++◌, length, None, Some, refl, sym, subst, ap, ◌∙◌, inl, inr, arith, lit≤, append_assoc}
 use Rattle.std.specs.Prelude.{Result, Ok, Err, OnOk, IfErr, IsTrue}
 use Rattle.std.proofs.lemmas.List.{length-append}
 use Rattle.bd_limits.specs.Limits.{flush_limit}
-use Rattle.bd_io.specs.Cause.{Rose}
 use Rattle.bd_command.specs.Command.{IsCommand}
 use Rattle.bd_command.specs.Log.{IsLogged}
 use Rattle.bd_command.specs.declared.Command.{Command}
@@ -19,6 +18,7 @@ use Rattle.bd_message.specs.declared.fault.Counter.TheVariants.{Count, NextId, L
 use Rattle.bd_message.specs.declared.fault.MapFault.{MapFault}
 use Rattle.bd_message.specs.declared.fault.MapFault.TheVariants as map
 use Rattle.bd_message.specs.KeyMaps.{At, SameAt, IsApplied, IsGrafted, IsCause, HasMapCause, NeverWorn, StaysUnlessDevice}
+use Rattle.bd_device.specs.Device.{LastFailed}
 use Rattle.bd_device.specs.declared.device.Device.{Ghosts}
 use Rattle.bd_represent.specs.Represents.{Represents}
 use Rattle.bd_represent.proofs.TreeLemmas.{Represents-along}
@@ -33,13 +33,15 @@ use Rattle.bd_effects.proofs.Carried.{done_accepted, applied_plan, grafted_plan}
 use Rattle.bd_effects.proofs.Uncounted.{never_counted}
 use Rattle.bd_checkpoint.specs.declared.commands.PlacedCommand.{PlacedCommand}
 use Rattle.bd_checkpoint.specs.Recovering.{LeadsBy}
+use Rattle.bd_checkpoint.proofs.Checkpointed.{failed_after}
 use Rattle.bd_pager.specs.Pagers.{nodes_of, table_of, is_known, is_bad}
 use Rattle.bd_node.specs.Tables.{IsSound}
 use Rattle.bd_view.specs.Trees.{HasSent, TreeView, waiting_limit}
 use Rattle.bd_view.specs.Views.{View, keys_of as view_keys}
 use Rattle.bd_view.specs.Moves.{OnlyNodes, FlushesAgain, AreFlushedAgain, IsReplayed, AreReplayed}
 use Rattle.bd_view.specs.Moves.AreFlushedAgain.{none, more}
-use Rattle.bd_engine.specs.Engines.{EngineState, keys_of, IsSoundOn, IsReadOn, IsWornIn, view_of as view_in}
+use Rattle.bd_engine.specs.Engines.{EngineState, keys_of, flushed_on, IsSoundOn, IsReadOn, IsWornIn, view_of as view_in}
+use Rattle.bd_engine.proofs.Counted.{flushed_none as uncounted, flushed_once, flushed_few}
 use Rattle.bd_volume.specs.declared.fault.Fault.{Fault}
 use Rattle.bd_volume.specs.declared.fault.Fault.TheVariants.{Device, Damaged, Worn, NoMemory, Full, Stopped}
 use Rattle.bd_volume.specs.declared.volume.Volume.{Volume}
@@ -116,7 +118,7 @@ module _ {D : Type 0} (g : Ghosts D) where
   -- ---- whether the device failed
 
   replay_cause_then : (a b d : Volume D) (fault : Fault) → HasNotFailed g a b → IsReplayCause g b d fault → IsReplayCause g a d fault
-  replay_cause_then a b d Device same h = subst (λ (n : ℕ). Rose n (g.fault_count (device_of d))) same h
+  replay_cause_then a b d Device same h = failed_after g (device_of a) (device_of b) (device_of d) same h
   replay_cause_then a b d (Damaged block) same h = h ∙ same
   replay_cause_then a b d (Worn which) same h = h ∙ same
   replay_cause_then a b d NoMemory same h = h ∙ same
@@ -139,18 +141,18 @@ module _ {D : Type 0} (g : Ghosts D) where
 
   pub cause_device : {T : Type 0} (a b : Volume D) (fault : Fault) → fault ≡ Device → IsFaultCause g a b fault → HasReplayCause {T = T} g a b (Err fault)
   cause_device {T} a b fault is h =
-      let rose : Rose (g.fault_count (device_of a)) (g.fault_count (device_of b)) = subst (λ (f : Fault). IsFaultCause g a b f) is h in
-      subst (λ (f : Fault). HasReplayCause {T = T} g a b (Err f)) (sym is) (record { kept = tt; failed = rose })
+      let failed : LastFailed g (device_of a) (device_of b) = subst (λ (f : Fault). IsFaultCause g a b f) is h in
+      subst (λ (f : Fault). HasReplayCause {T = T} g a b (Err f)) (sym is) (record { kept = tt; failed = failed })
 
   map_replay_cause : (a b : Volume D) (worn : Counter → Type 0) (fault : MapFault) → StaysUnlessDevice (g.fault_count (device_of a)) (g.fault_count (device_of b)) fault
-      → IsCause (g.fault_count (device_of a)) (g.fault_count (device_of b)) (is_bad g b.engine.pager) worn fault → IsReplayCause g a b (fault_of fault)
-  map_replay_cause a b worn map.DeviceFault stays h = h
+      → IsCause (g.fault_count (device_of a)) (g.fault_count (device_of b)) (g.last_failed (device_of b)) (is_bad g b.engine.pager) worn fault → IsReplayCause g a b (fault_of fault)
+  map_replay_cause a b worn map.DeviceFault stays h = record { one = h.0; last = h.1 }
   map_replay_cause a b worn (map.Damaged block) stays h = stays
   map_replay_cause a b worn (map.Worn which) stays h = stays
   map_replay_cause a b worn map.NoMemory stays h = stays
 
   -- a call of the engine failed
-  pub cause_map : {T U : Type 0} (a b : Volume D) (worn : Counter → Type 0) (fault : MapFault) → HasMapCause {T = U} (g.fault_count (device_of a)) (g.fault_count (device_of b)) (is_bad g b.engine.pager) worn (Err fault) → HasReplayCause {T = T} g a b (Err (fault_of fault))
+  pub cause_map : {T U : Type 0} (a b : Volume D) (worn : Counter → Type 0) (fault : MapFault) → HasMapCause {T = U} (g.fault_count (device_of a)) (g.fault_count (device_of b)) (g.last_failed (device_of b)) (is_bad g b.engine.pager) worn (Err fault) → HasReplayCause {T = T} g a b (Err (fault_of fault))
   cause_map a b worn fault h = record { kept = tt; failed = map_replay_cause a b worn fault h.stays h.failed }
 
   -- ---- faults
@@ -165,12 +167,12 @@ module _ {D : Type 0} (g : Ghosts D) where
   worn_in_again a Flushes c known waits h = worn_in_step g a Flushes c known waits h
 
   -- of a flush step
-  pub flush_again_fails : (m n : ℕ) (a b : Volume D) (c : Command) (fault : MapFault) → waiting_limit c < (table_of a.engine.pager).size → (IsSoundOn g a.engine → IsSoundOn g b.engine)
-      → KeepsGood g a.engine b.engine → IsCause m n (is_bad g b.engine.pager) (IsWornIn g a.engine.pager) fault → IsFlushFault g (fault_of fault) c a
-  flush_again_fails m n a b c map.DeviceFault waits sound good h = tt
-  flush_again_fails m n a b c (map.Damaged block) waits sound good h = bad_before g a.engine b.engine block good sound (bad_on g b.engine block h)
-  flush_again_fails m n a b c (map.Worn which) waits sound good h = λ s. worn_in_again a which c s.known waits h
-  flush_again_fails m n a b c map.NoMemory waits sound good h = tt
+  pub flush_again_fails : (m n : ℕ) (last : Bool) (a b : Volume D) (c : Command) (fault : MapFault) → waiting_limit c < (table_of a.engine.pager).size → (IsSoundOn g a.engine → IsSoundOn g b.engine)
+      → KeepsGood g a.engine b.engine → IsCause m n last (is_bad g b.engine.pager) (IsWornIn g a.engine.pager) fault → IsFlushFault g (fault_of fault) c a
+  flush_again_fails m n last a b c map.DeviceFault waits sound good h = tt
+  flush_again_fails m n last a b c (map.Damaged block) waits sound good h = bad_before g a.engine b.engine block good sound (bad_on g b.engine block h)
+  flush_again_fails m n last a b c (map.Worn which) waits sound good h = λ s. worn_in_again a which c s.known waits h
+  flush_again_fails m n last a b c map.NoMemory waits sound good h = tt
 
   -- or of what is written before it
   pub device_flush_fails : (fault : Fault) (c : Command) (a : Volume D) → fault ≡ Device → IsFlushFault g fault c a
@@ -211,32 +213,49 @@ module _ {D : Type 0} (g : Ghosts D) where
     pub goes : GoesEarly g a b
     pub faults : HasNotFailed g a b
     pub count_is : count_of b ≡ count_of a
+    pub counted : b.engine.flushes ≡ flushed_on a.engine.flushes made
 
-  pub flushed_none : (c : Command) (a : Volume D) → stop_of a ≡ None → FlushedOn c 0 a a
-  flushed_none c a going = record { sound = λ s. s; same = λ s k. refl; flushed = λ s. none (view_of g a); goes = goes_none g a going; faults = refl; count_is = refl }
+  pub flushed_none : (c : Command) (a : Volume D) → stop_of a ≡ None → a.engine.flushes < 2 ^ 64 → FlushedOn c 0 a a
+  flushed_none c a going low = record {
+    sound = λ s. s;
+    same = λ s k. refl;
+    flushed = λ s. none (view_of g a);
+    goes = goes_none g a going;
+    faults = refl;
+    count_is = refl;
+    counted = uncounted a.engine.flushes low;
+  }
 
   pub flushed_more : (c : Command) (made : ℕ) (a b d : Volume D) → FlushedOn c made a b → (IsSoundOn g b.engine → IsSoundOn g d.engine) → (IsSoundOn g b.engine → SameAt (keys_of g b.engine.pager) (keys_of g d.engine.pager))
-      → (IsSoundOn g b.engine → FlushesAgain c (view_of g b) (view_of g d)) → GoesEarly g b d → HasNotFailed g b d → count_of d ≡ count_of b → FlushedOn c (made + 1) a d
-  flushed_more c made a b d h sound same step goes faults count = record {
+      → (IsSoundOn g b.engine → FlushesAgain c (view_of g b) (view_of g d)) → GoesEarly g b d → HasNotFailed g b d → count_of d ≡ count_of b → d.engine.flushes ≡ flushed_on b.engine.flushes 1 → FlushedOn c (made + 1) a d
+  flushed_more c made a b d h sound same step goes faults count counted = record {
     sound = λ s. sound (h.sound s);
     same = λ s k. same (h.sound s) k ∙ h.same s k;
     flushed = λ s. more made (view_of g a) (view_of g b) (view_of g d) (h.flushed s) (step (h.sound s));
     goes = goes_both g a b d h.goes goes;
     faults = faults ∙ h.faults;
     count_is = count ∙ h.count_is;
+    counted = counted ∙ ap (λ (n : ℕ). flushed_on n 1) h.counted ∙ flushed_once a.engine.flushes made;
   }
 
   -- no more was
   pub flushed_last : (c : Command) (made : ℕ) (a b d : Volume D) → FlushedOn c made a b → (IsSoundOn g b.engine → IsSoundOn g d.engine) → (IsSoundOn g b.engine → SameAt (keys_of g b.engine.pager) (keys_of g d.engine.pager))
-      → (IsSoundOn g b.engine → view_of g d ≡ view_of g b) → GoesEarly g b d → HasNotFailed g b d → count_of d ≡ count_of b → FlushedOn c made a d
-  flushed_last c made a b d h sound same view goes faults count = record {
+      → (IsSoundOn g b.engine → view_of g d ≡ view_of g b) → GoesEarly g b d → HasNotFailed g b d → count_of d ≡ count_of b → d.engine.flushes ≡ b.engine.flushes → FlushedOn c made a d
+  flushed_last c made a b d h sound same view goes faults count counted = record {
     sound = λ s. sound (h.sound s);
     same = λ s k. same (h.sound s) k ∙ h.same s k;
     flushed = λ s. again_same c made (view_of g a) (view_of g b) (view_of g d) (h.flushed s) (view (h.sound s));
     goes = goes_both g a b d h.goes goes;
     faults = faults ∙ h.faults;
     count_is = count ∙ h.count_is;
+    counted = counted ∙ h.counted;
   }
+
+  -- there were few
+  pub few_made : (c : Command) (made : ℕ) (a b d : Volume D) → FlushedOn c made a b → made ≤ flush_limit → d.engine.flushes ≡ b.engine.flushes → d.engine.flushes ≤ a.engine.flushes + flush_limit
+  few_made c made a b d h few same =
+      let low : flushed_on a.engine.flushes made ≤ a.engine.flushes + made = flushed_few a.engine.flushes made in
+      omega (arith, low, few, same, h.counted)
 
   pub has_flushed : (c : Command) (made : ℕ) (a b : Volume D) → FlushedOn c made a b → made ≤ flush_limit → IsSoundOn g a.engine → HasFlushedAgain c (view_of g a) (view_of g b)
   has_flushed c made a b h few = λ s. record { made = made; flushed = h.flushed s; few = few }
@@ -244,20 +263,20 @@ module _ {D : Type 0} (g : Ghosts D) where
   -- ---- faults of what it sends
 
   -- of its messages
-  pub append_fails : (m n : ℕ) (a d : Volume D) (c : Command) (fault : MapFault) → (IsSoundOn g a.engine → IsSoundOn g d.engine) → KeepsGood g a.engine d.engine
-      → IsCause m n (is_bad g d.engine.pager) NeverWorn fault → IsAgainFault g (fault_of fault) c a
-  append_fails m n a d c map.DeviceFault sound good h = tt
-  append_fails m n a d c (map.Damaged block) sound good h = bad_before g a.engine d.engine block good sound (bad_on g d.engine block h)
-  append_fails m n a d c (map.Worn which) sound good h = absurd h
-  append_fails m n a d c map.NoMemory sound good h = tt
+  pub append_fails : (m n : ℕ) (last : Bool) (a d : Volume D) (c : Command) (fault : MapFault) → (IsSoundOn g a.engine → IsSoundOn g d.engine) → KeepsGood g a.engine d.engine
+      → IsCause m n last (is_bad g d.engine.pager) NeverWorn fault → IsAgainFault g (fault_of fault) c a
+  append_fails m n last a d c map.DeviceFault sound good h = tt
+  append_fails m n last a d c (map.Damaged block) sound good h = bad_before g a.engine d.engine block good sound (bad_on g d.engine block h)
+  append_fails m n last a d c (map.Worn which) sound good h = absurd h
+  append_fails m n last a d c map.NoMemory sound good h = tt
 
   -- of its graft
-  pub graft_fails : (m n : ℕ) (worn : Counter → Type 0) (a b d : Volume D) (c : Command) (s1 d1 : List ℕ) (keep : Bool) (fault : MapFault) → IsPlanKind c (Graft s1 d1 keep) → (IsSoundOn g a.engine → IsSoundOn g b.engine) → (IsSoundOn g b.engine → IsSoundOn g d.engine)
+  pub graft_fails : (m n : ℕ) (failed : Bool) (worn : Counter → Type 0) (a b d : Volume D) (c : Command) (s1 d1 : List ℕ) (keep : Bool) (fault : MapFault) → IsPlanKind c (Graft s1 d1 keep) → (IsSoundOn g a.engine → IsSoundOn g b.engine) → (IsSoundOn g b.engine → IsSoundOn g d.engine)
       → KeepsGood g a.engine d.engine → (IsSoundOn g a.engine → HasFlushedAgain c (view_of g a) (view_of g b)) → (table_of b.engine.pager).size ≤ waiting_limit c
-      → IsCause m n (is_bad g d.engine.pager) worn fault → (IsSoundOn g b.engine → OnWorn (IsWornByGraft (nodes_of g b.engine.pager) (table_of b.engine.pager) s1 d1 keep) fault) → IsAgainFault g (fault_of fault) c a
-  graft_fails m n worn a b d c s1 d1 keep map.DeviceFault kind sound last good flushed enough h by = tt
-  graft_fails m n worn a b d c s1 d1 keep (map.Damaged block) kind sound last good flushed enough h by = bad_before g a.engine d.engine block good (λ s. last (sound s)) (bad_on g d.engine block h)
-  graft_fails m n worn a b d c s1 d1 keep (map.Worn which) kind sound last good flushed enough h by = λ s.
+      → IsCause m n failed (is_bad g d.engine.pager) worn fault → (IsSoundOn g b.engine → OnWorn (IsWornByGraft (nodes_of g b.engine.pager) (table_of b.engine.pager) s1 d1 keep) fault) → IsAgainFault g (fault_of fault) c a
+  graft_fails m n failed worn a b d c s1 d1 keep map.DeviceFault kind sound last good flushed enough h by = tt
+  graft_fails m n failed worn a b d c s1 d1 keep (map.Damaged block) kind sound last good flushed enough h by = bad_before g a.engine d.engine block good (λ s. last (sound s)) (bad_on g d.engine block h)
+  graft_fails m n failed worn a b d c s1 d1 keep (map.Worn which) kind sound last good flushed enough h by = λ s.
       let v : View = view_of g b in
       record {
         made = (flushed s).made;
@@ -266,7 +285,7 @@ module _ {D : Type 0} (g : Ghosts D) where
         few = (flushed s).few;
         worn = worn_graft_again which (count_of a) c (flushed s).made v.tree s1 d1 keep (by (sound s)) (worn_kind (kind_of c) which c v.tree s1 d1 keep kind enough (by (sound s)));
       }
-  graft_fails m n worn a b d c s1 d1 keep map.NoMemory kind sound last good flushed enough h by = tt
+  graft_fails m n failed worn a b d c s1 d1 keep map.NoMemory kind sound last good flushed enough h by = tt
 
   -- of what is planned
   pub sends_fail : {T : Type 0} (r : Result T Fault) (p : PlacedCommand) (plan : Plan) (a : Volume D) → IfErr r (λ fault. IsAgainFault g fault p.command a) → IfErr r (λ fault. IsSendFault g fault p plan a)
@@ -293,11 +312,11 @@ module _ {D : Type 0} (g : Ghosts D) where
   replay_fails (Stopped call) p plan a b read count planned h = h
 
   -- of planning it
-  pub plan_fails : (m n : ℕ) (a b : Volume D) (p : PlacedCommand) (fault : MapFault) → IsReadOn g a.engine b.engine → IsCause m n (is_bad g b.engine.pager) NeverWorn fault → IsReplayFault g (fault_of fault) p a
-  plan_fails m n a b p map.DeviceFault read h = tt
-  plan_fails m n a b p (map.Damaged block) read h = inr (bad_before g a.engine b.engine block (good_read g a.engine b.engine read) read.sound (bad_on g b.engine block h))
-  plan_fails m n a b p (map.Worn which) read h = absurd h
-  plan_fails m n a b p map.NoMemory read h = tt
+  pub plan_fails : (m n : ℕ) (last : Bool) (a b : Volume D) (p : PlacedCommand) (fault : MapFault) → IsReadOn g a.engine b.engine → IsCause m n last (is_bad g b.engine.pager) NeverWorn fault → IsReplayFault g (fault_of fault) p a
+  plan_fails m n last a b p map.DeviceFault read h = tt
+  plan_fails m n last a b p (map.Damaged block) read h = inr (bad_before g a.engine b.engine block (good_read g a.engine b.engine read) read.sound (bad_on g b.engine block h))
+  plan_fails m n last a b p (map.Worn which) read h = absurd h
+  plan_fails m n last a b p map.NoMemory read h = tt
 
   pub count_again : (count : ℕ) (c : Command) (v : View) → 2 ^ 64 ≤ count + 1 → WearsAgain Count count c v
   count_again count c v full = record { made = 0; last = v; flushed = none v; few = lit≤ tt; worn = full }
@@ -365,14 +384,15 @@ module _ {D : Type 0} (g : Ghosts D) where
     good = good_same g a.engine;
     done = λ t h. record { tree = t; leads = refl; has = h; views = refl };
     count_is = omega arith;
+    few = omega arith;
   }
 
   pub front_same : (list rest others : List PlacedCommand) (a b : Volume D) → rest ≡ others → ReplaysFront g list rest a b → ReplaysFront g list others a b
   front_same list rest others a b same h = subst (λ (l : List PlacedCommand). ReplaysFront g list l a b) same h
 
   pub front_more : (list rest : List PlacedCommand) (p : PlacedCommand) (a b d : Volume D) → ReplaysFront g list (p ∷ rest) a b → KeepsGood g b.engine d.engine → (IsSoundOn g b.engine → IsSoundOn g d.engine)
-      → ((t : Tree) → HasTreeOn g b t → ReplaysOn g t p.command b d) → count_of d ≡ count_of b + 1 → ReplaysFront g list rest a d
-  front_more list rest p a b d h good sound one count = record {
+      → ((t : Tree) → HasTreeOn g b t → ReplaysOn g t p.command b d) → count_of d ≡ count_of b + 1 → d.engine.flushes ≤ b.engine.flushes + flush_limit → ReplaysFront g list rest a d
+  front_more list rest p a b d h good sound one count few = record {
     front = h.front ++ p ∷ [];
     there = h.there ∙ sym (append_assoc h.front (p ∷ []) rest);
     sound = λ s. sound (h.sound s);
@@ -389,4 +409,7 @@ module _ {D : Type 0} (g : Ghosts D) where
     count_is =
         let many : length (h.front ++ p ∷ []) ≡ length h.front + 1 = length-append h.front (p ∷ []) in
         omega (arith, count, h.count_is, many);
+    few =
+        let many : length (h.front ++ p ∷ []) ≡ length h.front + 1 = length-append h.front (p ∷ []) in
+        subst (λ (n : ℕ). d.engine.flushes ≤ a.engine.flushes + flush_limit * n) (sym many) (omega (arith, few, h.few));
   }

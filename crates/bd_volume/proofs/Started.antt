@@ -1,11 +1,9 @@
 -- What a volume stands for once it is started, and why none starts.
-use Rattle.std.proofs.Common.{rules, ◌≡◌, ◌≢◌, ℕ, ◌+◌, ◌-◌, ◌^◌, List, [], ◌∷◌, ◌++◌, length, Option, None, Some, refl, sym, subst, ap, ◌∙◌, inl, inr, arith, append-nil}
-use Rattle.std.specs.Prelude.{◌⊎◌, IsSome, IfSome, IsSomeAnd, All, Result, slice_index}
+use Rattle.std.proofs.Common.{rules, ◌≡◌, ◌≢◌, ℕ, ◌+◌, List, [], ◌∷◌, ◌++◌, length, Option, None, Some, refl, sym, subst, ap, ◌∙◌, inl, inr, arith, append-nil}
+use Rattle.std.specs.Prelude.{◌⊎◌, IsSome, IfSome, IsSomeAnd, All, Result}
 use Rattle.std.specs.List.{AllByRecursion}
 use Rattle.std.proofs.lemmas.List.{length-map, map-append}
 use Rattle.std.proofs.lemmas.List.Elements.{recursion_from_All}
-use Rattle.std.proofs.lemmas.Bool.{cases_lt}
-use Rattle.bd_io.specs.Cause.{Rose, next_count}
 use Rattle.bd_wire.specs.Encoding.{IsPrefixFree}
 use Rattle.bd_command.specs.Log.{IsLogged, log_record}
 use Rattle.bd_command.specs.declared.Command.{Command}
@@ -23,31 +21,35 @@ use Rattle.bd_node.specs.Meaning.{Nodes}
 use Rattle.bd_node.specs.Tables.{Table, IsSound, root_at}
 use Rattle.bd_table.specs.declared.table.Table.{Table as StoredTable}
 use Rattle.bd_table.proofs.TableLemmas.{one_table}
-use Rattle.bd_slots.specs.Layout.{slot_block}
 use Rattle.bd_super.specs.Live.{IsLive}
+use Rattle.bd_super.specs.declared.superblock.Super.{Super}
 use Rattle.bd_log.specs.Logs.{LogState}
 use Rattle.bd_image.specs.ImageTree.{ImageStandsFor}
 use Rattle.bd_image.specs.Stored.{HoldsNodes, table_of as stored_table}
 use Rattle.bd_image.specs.Versions.{version_of}
-use Rattle.bd_image.specs.Damage.{table_start, unplaced, IsTreeAfter, HasRecord, IsBadAt}
-use Rattle.bd_image.specs.Damage.IsBadAt.{unsound_nodes, refused_record}
+use Rattle.bd_image.specs.Damage.{unplaced, IsTreeAfter, HasRecord, IsBadAt}
+use Rattle.bd_image.specs.Damage.IsBadAt.{refused_record}
 use Rattle.bd_checkpoint.specs.declared.commands.PlacedCommand.{PlacedCommand}
 use Rattle.bd_checkpoint.specs.Commands.{IsPlacedIn, placed_record, records_for}
 use Rattle.bd_checkpoint.specs.Kept.{AllStandFor, AreOfTree}
-use Rattle.bd_checkpoint.specs.Recovering.{IsBadIn, LeadsBy, LeadsTo}
+use Rattle.bd_checkpoint.specs.Recovering.{saved_of, IsBadIn, LeadsBy, LeadsTo}
+use Rattle.bd_checkpoint.proofs.Checkpointed.{failed_after}
 use Rattle.bd_checkpoint.proofs.Replaying.{leads_by}
+use Rattle.bd_pager.specs.Damage.{IsFirstDamaged}
 use Rattle.bd_pager.specs.Pagers.{spots_of, nodes_of, table_of, is_known, is_bad}
 use Rattle.bd_pager.specs.Places.{IsBadSpot}
 use Rattle.bd_view.specs.Moves.{AreReplayed}
 use Rattle.bd_engine.specs.Engines.{EngineState, IsSoundOn, IsBadOn, IsFreshOn}
 use Rattle.bd_engine.specs.Stored.{IsFound, ArePlaced, IsStoredBy}
+use Rattle.bd_engine.proofs.Damage.{first_shown}
 use Rattle.bd_volume.specs.declared.fault.Fault.{Fault}
 use Rattle.bd_volume.specs.declared.fault.Fault.TheVariants.{Device, Damaged, Worn, NoMemory, Full, Stopped}
 use Rattle.bd_volume.specs.declared.volume.Volume.{Volume}
 use Rattle.bd_volume.specs.Faults.{image_fault_of, IsStartCause}
-use Rattle.bd_volume.specs.Replays.{IsReplayCause, ReplaysEarly, HasTreeOn, WearsAgain, Refuses, commands_of, HasReplayed, ReplaysFront, StopsReplaying}
+use Rattle.bd_volume.specs.Replays.{IsReplayCause, ReplaysEarly, HasTreeOn, WearsAgain, Refuses, commands_of, HasReplayed, ReplaysFront, StopsReplaying, ShowsReplay}
+use Rattle.bd_volume.specs.Unstarted.{ShowsWornReplay}
 use Rattle.bd_volume.specs.Volume.{StandsFor, IsFirstView, view_of, without_walk, count_of, device_of}
-use Rattle.bd_volume.specs.Wears.{WearsReplaying, IsWornInReplay}
+use Rattle.bd_volume.specs.Wears.{WearsReplaying, IsWornInReplay, ShowsWorn}
 use Rattle.bd_volume.proofs.Bad.{bad_before}
 use Rattle.bd_volume.proofs.Replayed.{leads_one, leads_next}
 use Rattle.bd_volume.proofs.Safe.{safe_now}
@@ -55,7 +57,7 @@ use Rattle.bd_volume.proofs.Starts.{as_stands}
 
 -- ---- faults of an image
 
-unworn_as : {A : Type 0} (cause : ImageFault) (e : Fault) (which : Counter) → e ≡ image_fault_of cause → e ≡ Worn which → A
+pub unworn_as : {A : Type 0} (cause : ImageFault) (e : Fault) (which : Counter) → e ≡ image_fault_of cause → e ≡ Worn which → A
 unworn_as image.DeviceFault e which is same = let bad : ⊥ = cc in absurd bad
 unworn_as (image.Damaged block) e which is same = let bad : ⊥ = cc in absurd bad
 unworn_as image.NoMemory e which is same = let bad : ⊥ = cc in absurd bad
@@ -65,11 +67,8 @@ pub unworn : (known : Option Image) (cause : ImageFault) (e : Fault) → e ≡ i
 unworn None cause e is t n = tt
 unworn (Some image) cause e is t n = λ stands which worn. unworn_as cause e which is worn
 
-rose_next : (n : ℕ) → Rose n (next_count n)
-rose_next n = elim (cases_lt n (2 ^ 64 - 1)) [ inl low ↦ inl (omega (arith, low)) | inr high ↦ inr (omega (arith, high)) ]
-
 image_cause : {D : Type 0} (g : Ghosts D) (old new : D) (cause : ImageFault) → IsImageCause g old new (IsBadIn (g.contents old)) cause → IsStartCause g old new (image_fault_of cause)
-image_cause g old new image.DeviceFault h = subst (λ (n : ℕ). Rose (g.fault_count old) n) (sym h.one) (rose_next (g.fault_count old))
+image_cause g old new image.DeviceFault h = h
 image_cause g old new (image.Damaged block) h = h
 image_cause g old new image.NoMemory h = h
 
@@ -166,9 +165,10 @@ module _ {D : Type 0} (g : Ghosts D) where
   bad_image : (a : Volume D) (fresh : IsFreshOn g a.engine) (image : Image) (block : ℕ) → is_known g a.engine.pager → g.contents (device_of a) ≡ Some image → IsStoredBy g a.engine image → IsBadOn g a.engine block → IsBadAt image block
   bad_image a fresh image block known there stored bad = elim (bad known) [
     | inl spot ↦ stored.nodes.bad a.engine.live stored.live_is stored.table_is spot.0 block (subst (λ (o : Option Image). IsBadSpot o (spots_of a.engine.pager spot.0) block) there spot.1)
-    | inr table ↦
-        let first : block ≡ table_start a.engine.live = subst (λ (at : List ℕ). block ≡ slot_block (slice_index at 0)) stored.at_is table.0 in
-        subst (λ (b : ℕ). IsBadAt image b) (sym first) (unsound_nodes a.engine.live a.engine.pager.saved stored.live_is stored.table_is (λ nodes holds sound. table.1 (stored_sound a fresh image nodes known stored holds sound)))
+    | inr first ↦
+        first_shown image a.engine.live (saved_of a.engine.pager) block stored.live_is stored.table_is stored.at_is
+        (subst (λ (o : Option Image). IsFirstDamaged o a.engine.pager.saved.entries a.engine.pager.at block) there first.0)
+        (λ nodes holds sound. first.1 (stored_sound a fresh image nodes known stored holds sound))
   ]
 
   -- the tree of the image's nodes is one that the volume's have
@@ -215,7 +215,7 @@ module _ {D : Type 0} (g : Ghosts D) where
 
   pub replay_cause : (dev : D) (a v : Volume D) (fresh : IsFreshOn g a.engine) (list : List PlacedCommand) (fault : Fault) → IsPrefixFree IsLogged log_record → g.contents (device_of a) ≡ g.contents dev → (IsSome (g.contents dev) → is_known g a.engine.pager) → IfSome (g.contents dev) (IsStoredBy g a.engine) → IfSome (g.contents dev) (λ image. ArePlaced image a.engine.live list)
       → All (IsPlacedIn (version_of a.engine.live)) list → g.fault_count (device_of a) ≡ g.fault_count dev → StopsReplaying g fault list a → IsReplayCause g a v fault → IsStartCause g dev (device_of v) fault
-  replay_cause dev a v fresh list Device free there told stored placed each same stops h = subst (λ (n : ℕ). Rose n (g.fault_count (device_of v))) same h
+  replay_cause dev a v fresh list Device free there told stored placed each same stops h = failed_after g dev (device_of a) (device_of v) same h
   replay_cause dev a v fresh list (Damaged block) free there told stored placed each same stops h =
       (bad_start (g.contents dev) a stops.mid fresh list stops.rest stops.next block free there told stored placed (recursion_from_All (IsPlacedIn (version_of a.engine.live)) list each) stops.before stops.cause, h ∙ same)
   replay_cause dev a v fresh list (Worn which) free there told stored placed each same stops h = h ∙ same
@@ -229,7 +229,7 @@ module _ {D : Type 0} (g : Ghosts D) where
   not_bad : (e : EngineState D) (block : ℕ) → IsSoundOn g e → ¬ is_bad g e.pager block → IsBadOn g e block → ⊥
   not_bad e block s good bad = good (λ known. elim (bad known) [
     | inl spot ↦ inl spot
-    | inr table ↦ absurd (table.1 s)
+    | inr first ↦ absurd (first.1 s)
   ])
 
   not_damaged : (a mid : Volume D) (fresh : IsFreshOn g a.engine) (list rest : List PlacedCommand) (next : PlacedCommand) (block : ℕ) (t : Tree) (n : ℕ) → LeadsTo g a.engine.pager a.engine.live list t n → ReplaysFront g list (next ∷ rest) a mid
@@ -279,6 +279,23 @@ module _ {D : Type 0} (g : Ghosts D) where
   replay_wears None a fresh list fault t n counted placed found leads stops = tt
   replay_wears (Some image) a fresh list fault t n counted placed found leads stops = λ stands which is.
       worn_of image a fresh list which t n counted placed.live_is (found stands) (leads stands) (subst (λ (f : Fault). StopsReplaying g f list a) is stops)
+
+  -- where the nodes may not be known
+  pub replay_shows : (known : Option Image) (a v : Volume D) (list : List PlacedCommand) (fault : Fault) (which : Counter) → a.count ≡ a.engine.live.count → a.engine.flushes ≡ 0 → IfSome known (λ image. ArePlaced image a.engine.live list) → v.engine.live ≡ a.engine.live
+      → ShowsReplay g fault list a v → fault ≡ Worn which → ShowsWornReplay g which known v
+  replay_shows known a v list fault which counted fresh placed live shows is =
+      let h : ShowsReplay g (Worn which) list a v = subst (λ (f : Fault). ShowsReplay g f list a v) is shows in
+      let same : v.engine.live.count ≡ a.engine.live.count = ap (λ (s : Super). s.count) live in
+      let count : count_of h.mid ≡ v.engine.live.count + length h.before.front = omega (arith, h.before.count_is, counted, same) in
+      record {
+        front = h.before.front;
+        next = h.next;
+        rest = h.rest;
+        placed = subst (λ (l : List PlacedCommand). IfSome known (λ image. ArePlaced image v.engine.live l)) h.before.there (subst (λ (s : Super). IfSome known (λ image. ArePlaced image s list)) (sym live) placed);
+        before = h.mid.engine.flushes;
+        few = omega (arith, h.before.few, fresh);
+        shows = subst (λ (n : ℕ). ShowsWorn g which n h.mid.engine.flushes h.next.command v.engine) count h.shows;
+      }
 
   -- ---- on a new image
 

@@ -13,11 +13,11 @@ use Rattle.bd_node.specs.Meaning.{Nodes}
 use Rattle.bd_node.specs.Tables.{Table, root_at}
 use Rattle.bd_pager.specs.Pagers.{Paged, nodes_of, table_of}
 use Rattle.bd_engine.specs.Engines.{EngineState, keys_of, KeepsNodesOn, IsStopped}
+use Rattle.bd_engine.specs.Writes.{WritesOn}
 use Rattle.bd_volume.specs.declared.fault.Fault.TheVariants.{Device}
 use Rattle.bd_volume.specs.declared.volume.Volume.{Volume}
 use Rattle.bd_volume.specs.Volume.{StandsFor, GoesBy, count_of, device_of, stop_of}
 use Rattle.bd_volume.specs.Steps.{Ends}
-use Rattle.bd_volume.proofs.Called.{rose}
 use Rattle.bd_volume.proofs.Read.{stands_same}
 use Rattle.bd_volume.proofs.Safe.{safe_now, with_waiting, all_or_none}
 
@@ -55,16 +55,18 @@ module _ {D : Type 0} (g : Ghosts D) where
 
   -- ---- how it ends
 
-  pub sync_well : {T : Type 0} (a b : Volume D) (x : T) → g.fault_count (device_of b) ≡ g.fault_count (device_of a) → stop_of b ≡ None → g.write_fault_count (device_of b) ≡ g.write_fault_count (device_of a) → Stays g (device_of a) (device_of b) → Ends {T = T} g a b (Ok x)
-  sync_well a b x faults going writes stays = record {
+  pub sync_well : {T : Type 0} (a b : Volume D) (x : T) → g.fault_count (device_of b) ≡ g.fault_count (device_of a) → stop_of b ≡ None → g.write_fault_count (device_of b) ≡ g.write_fault_count (device_of a) → Stays g (device_of a) (device_of b) → WritesOn g a.engine b.engine → Ends {T = T} g a b (Ok x)
+  sync_well a b x faults going write_faults stays writes = record {
     cause = record { later = omega (arith, faults); kept = faults; failed = tt };
-    stop = record { ok = record { stop_is = going; write_faults = writes }; err = tt };
+    stop = record { ok = record { stop_is = going; write_faults = write_faults }; err = tt };
     stays = stays;
+    writes = writes;
   }
 
-  pub sync_fails : {T : Type 0} (a b : Volume D) → g.fault_count (device_of a) ≤ g.fault_count (device_of b) → LastFailed g (device_of a) (device_of b) → IsStopped g a.engine b.engine → Stays g (device_of a) (device_of b) → Ends {T = T} g a b (Err Device)
-  sync_fails a b later failed stop stays = record {
-    cause = record { later = later; kept = tt; failed = rose g (g.fault_count (device_of a)) (g.fault_count (device_of b)) later failed.one };
+  pub sync_fails : {T : Type 0} (a b : Volume D) → g.fault_count (device_of a) ≤ g.fault_count (device_of b) → LastFailed g (device_of a) (device_of b) → IsStopped g a.engine b.engine → Stays g (device_of a) (device_of b) → WritesOn g a.engine b.engine → Ends {T = T} g a b (Err Device)
+  sync_fails a b later failed stop stays writes = record {
+    cause = record { later = later; kept = tt; failed = failed };
     stop = record { ok = tt; err = inr (record { stop_is = stop.stop_is; write_faults = stop.write_faults; failed = failed }, refl) };
     stays = stays;
+    writes = writes;
   }

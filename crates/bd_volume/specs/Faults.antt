@@ -1,6 +1,6 @@
 -- The faults of a volume and their causes.
 use Rattle.std.specs.Prelude.{◌≡◌, ◌≤◌, ◌<◌, ◌⊎◌, None, Some, Result, OnOk, IfErr}
-use Rattle.bd_io.specs.Cause.{Rose, next_count}
+use Rattle.bd_io.specs.Cause.{next_count}
 use Rattle.bd_device.specs.Device.{LastFailed}
 use Rattle.bd_device.specs.declared.device.Device.{Ghosts}
 use Rattle.bd_device.specs.declared.fault.ImageFault.{ImageFault}
@@ -31,10 +31,10 @@ image_fault_of image.NoMemory = NoMemory
 abbrev pub IsOfImage : Fault → Type 0
 IsOfImage fault = (cause : ImageFault) × (fault ≡ image_fault_of cause)
 
--- why no volume starts: the device has failed, or it hasn't, and damage is of a bad block; slots
--- are never short
+-- why no volume starts: the device's last call failed, and no other, or none did, and damage is of
+-- a bad block; slots are never short
 abbrev pub IsStartCause : {D : Type 0} → Ghosts D → D → D → Fault → Type 0
-IsStartCause g old new Device = Rose (g.fault_count old) (g.fault_count new)
+IsStartCause g old new Device = LastFailed g old new
 IsStartCause g old new (Damaged block) =
     IsBadIn (g.contents old) block × (g.fault_count new ≡ g.fault_count old)
 IsStartCause g old new (Worn which) = g.fault_count new ≡ g.fault_count old
@@ -46,11 +46,10 @@ IsStartCause g old new (Stopped call) = ⊥
 abbrev pub HasNotFailed : {D : Type 0} → Ghosts D → Volume D → Volume D → Type 0
 HasNotFailed g old new = g.fault_count (device_of new) ≡ g.fault_count (device_of old)
 
--- the device has failed; damage is of a bad block, and a volume that was stopped does nothing; at
--- every fault but its own the device hasn't failed
+-- the device's last call failed, and no other; damage is of a bad block, and a volume that was
+-- stopped does nothing; at every fault but its own the device hasn't failed
 abbrev pub IsFaultCause : {D : Type 0} → Ghosts D → Volume D → Volume D → Fault → Type 0
-IsFaultCause g old new Device =
-    Rose (g.fault_count (device_of old)) (g.fault_count (device_of new))
+IsFaultCause g old new Device = LastFailed g (device_of old) (device_of new)
 IsFaultCause g old new (Damaged block) = is_bad g new.engine.pager block × HasNotFailed g old new
 IsFaultCause g old new (Worn which) = HasNotFailed g old new
 IsFaultCause g old new NoMemory = HasNotFailed g old new

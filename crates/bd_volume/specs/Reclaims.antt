@@ -1,14 +1,16 @@
 -- How a volume makes changes of reclaiming, and why it stops.
-use Rattle.std.specs.Prelude.{◌≡◌, ℕ, ◌+◌, ◌^◌, ◌≤◌, ◌⊎◌, Option, None, Some, ⊤}
+use Rattle.std.specs.Prelude.{◌≡◌, ℕ, ◌+◌, ◌^◌, ◌<◌, ◌≤◌, ◌⊎◌, Option, None, Some, ⊤}
 use Rattle.bd_message.specs.declared.fault.Counter.TheVariants.{Epoch}
+use Rattle.bd_device.specs.declared.device.Device.{Ghosts}
 use Rattle.bd_cover.specs.declared.walking.Reclaim.{Reclaim}
 use Rattle.bd_reclaim.specs.Changes.{LeavesLess}
 use Rattle.bd_view.specs.Views.{View, changed_count, free_slots, save_slots}
 use Rattle.bd_view.specs.Moves.{CannotSave}
-use Rattle.bd_view.specs.Reclaiming.{edge_need, pushes_in, HasRoomFor, IsNextChange, HasNoChange, Reclaims, SavesBetween, AreReclaims, IsReclaimFull}
+use Rattle.bd_view.specs.Reclaiming.{push_limit, edge_need, pushes_in, HasRoomFor, IsNextChange, HasNoChange, Reclaims, SavesBetween, AreReclaims, IsReclaimFull}
+use Rattle.bd_engine.specs.Engines.{EngineState, view_of as view_in}
 use Rattle.bd_volume.specs.declared.fault.Fault.{Fault}
 use Rattle.bd_volume.specs.declared.fault.Fault.TheVariants.{Device, Damaged, Worn, NoMemory, Full, Stopped}
-use Rattle.bd_volume.specs.Wears.{HasBegunReclaiming, IsWornToReclaim, WearsReclaiming}
+use Rattle.bd_volume.specs.Wears.{HasBegunReclaiming, IsWornToReclaim, WearsReclaiming, ShowsWornToReclaim}
 
 -- after so many pushes the next change was made, which leaves less to change unless it is a push;
 -- or nodes were changed, and a checkpoint was made, since too few slots were free for the change
@@ -23,6 +25,13 @@ pub data ChangesOnce (before after : ℕ) (old new : View) : Type 0 where
 abbrev pub IsChangedTo : ℕ → Option ℕ → View → View → Type 0
 IsChangedTo before None old new = (new ≡ old) × HasNoChange before new
 IsChangedTo before (Some after) old new = ChangesOnce before after old new
+
+-- changes lead from the first view on, so many of them pushes, and none is left; or after so many
+-- pushes one more was made
+abbrev pub IsPushedTo : ℕ → Option ℕ → View → View → Type 0
+IsPushedTo before None first new = AreReclaims before first new × HasNoChange before new
+IsPushedTo before (Some after) first new =
+    AreReclaims after first new × (before < after) × (after ≤ push_limit)
 
 -- changes, so many of them pushes, and checkpoints between them, until none is left
 pub record ChangesAll (old new : View) : Type 0 where
@@ -64,14 +73,16 @@ pub record StopsChanging (fault : Fault) (old new : View) : Type 0 where
   pub changes : AreReclaims pushes old new
   pub cause : IsChangeFault fault pushes new
 
--- what is told of a fault where the nodes may not be known: with which numbers slots are too few
-abbrev pub ShowsEdge : Fault → View → Type 0
-ShowsEdge Device v = ⊤
-ShowsEdge (Damaged block) v = ⊤
-ShowsEdge (Worn which) v = ⊤
-ShowsEdge NoMemory v = ⊤
-ShowsEdge (Full free need) v = (free ≡ free_slots v) × (need ≡ edge_need v)
-ShowsEdge (Stopped call) v = ⊤
+-- what is told of a fault where the nodes may not be known: which counter is worn, and with which
+-- numbers slots are too few
+abbrev pub ShowsEdge : {D : Type 0} → Ghosts D → Fault → EngineState D → Type 0
+ShowsEdge g Device e = ⊤
+ShowsEdge g (Damaged block) e = ⊤
+ShowsEdge g (Worn which) e = ShowsWornToReclaim g which e
+ShowsEdge g NoMemory e = ⊤
+ShowsEdge g (Full free need) e =
+    (free ≡ free_slots (view_in g e)) × (need ≡ edge_need (view_in g e))
+ShowsEdge g (Stopped call) e = ⊤
 
 -- ---- reclaiming as a whole
 
@@ -85,11 +96,11 @@ IsReclaimFault (Full free need) old new = IsReclaimFull old free need new
 IsReclaimFault (Stopped call) old new = ⊥
 
 -- what is told of it where the nodes may not be known
-abbrev pub ShowsReclaim : Fault → View → Type 0
-ShowsReclaim Device v = ⊤
-ShowsReclaim (Damaged block) v = ⊤
-ShowsReclaim (Worn which) v = ⊤
-ShowsReclaim NoMemory v = ⊤
-ShowsReclaim (Full free need) v =
-    (free ≡ free_slots v) × ((need ≡ save_slots v) ⊎ (need ≡ edge_need v))
-ShowsReclaim (Stopped call) v = ⊤
+abbrev pub ShowsReclaim : {D : Type 0} → Ghosts D → Fault → EngineState D → Type 0
+ShowsReclaim g Device e = ⊤
+ShowsReclaim g (Damaged block) e = ⊤
+ShowsReclaim g (Worn which) e = ShowsWornToReclaim g which e
+ShowsReclaim g NoMemory e = ⊤
+ShowsReclaim g (Full free need) e = (free ≡ free_slots (view_in g e))
+    × ((need ≡ save_slots (view_in g e)) ⊎ (need ≡ edge_need (view_in g e)))
+ShowsReclaim g (Stopped call) e = ⊤

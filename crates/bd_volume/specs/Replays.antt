@@ -1,7 +1,6 @@
 -- How the commands of an image's log are replayed, and why that stops.
-use Rattle.std.specs.Prelude.{◌≡◌, ◌⊎◌, ◌+◌, ◌≤◌, ℕ, List, ◌∷◌, ◌++◌, length, map, false, ⊤, Result, OnOk, IfErr}
+use Rattle.std.specs.Prelude.{◌≡◌, ◌⊎◌, ◌+◌, ◌*◌, ◌≤◌, ℕ, List, ◌∷◌, ◌++◌, length, map, false, ⊤, Result, OnOk, IfErr}
 use Rattle.bd_limits.specs.Limits.{flush_limit}
-use Rattle.bd_io.specs.Cause.{Rose}
 use Rattle.bd_command.specs.declared.Command.{Command}
 use Rattle.bd_model.specs.Tree.{Tree, IsTree}
 use Rattle.bd_model.specs.Laws.{Accepts, after}
@@ -9,12 +8,12 @@ use Rattle.bd_message.specs.declared.fault.Counter.{Counter}
 use Rattle.bd_message.specs.declared.fault.Counter.TheVariants.{Count, NextId, Level, Refs, Epoch, Flushes}
 use Rattle.bd_represent.specs.Represents.{Represents}
 use Rattle.bd_device.specs.Changes.{StaysBut}
-use Rattle.bd_device.specs.Device.{left_now, Goes, Stays}
+use Rattle.bd_device.specs.Device.{left_now, Goes, Stays, LastFailed}
 use Rattle.bd_device.specs.declared.device.Device.{Ghosts}
 use Rattle.bd_dirs.specs.Sendings.{Sending}
 use Rattle.bd_dirs.specs.declared.plan.Plan.{Plan}
 use Rattle.bd_effects.specs.Carrying.{accepts}
-use Rattle.bd_pager.specs.Pagers.{spots_of, is_known}
+use Rattle.bd_pager.specs.Pagers.{spots_of, is_first_damaged, is_known}
 use Rattle.bd_pager.specs.Places.{NoneTurnsBad}
 use Rattle.bd_pager.specs.Slots.{IsSpare}
 use Rattle.bd_image.specs.Standing.{IsAsBefore}
@@ -30,32 +29,33 @@ use Rattle.bd_volume.specs.declared.fault.Fault.TheVariants.{Device, Damaged, Wo
 use Rattle.bd_volume.specs.declared.volume.Volume.{Volume}
 use Rattle.bd_volume.specs.Faults.{HasNotFailed, IsStoppedRightly}
 use Rattle.bd_volume.specs.Volume.{view_of, count_of, device_of}
+use Rattle.bd_volume.specs.Steps.{ShowsFault}
 use Rattle.bd_volume.specs.Wears.{IsWornForStep, IsWornInReplay}
 
 -- ---- whatever is known
 
--- why a replay fails, whatever is known: the device has failed, or it hasn't; slots are never short
+-- why a replay fails, whatever is known: the device's last call failed, and no other, or none did;
+-- slots are never short
 abbrev pub IsReplayCause : {D : Type 0} → Ghosts D → Volume D → Volume D → Fault → Type 0
-IsReplayCause g old new Device =
-    Rose (g.fault_count (device_of old)) (g.fault_count (device_of new))
+IsReplayCause g old new Device = LastFailed g (device_of old) (device_of new)
 IsReplayCause g old new (Damaged block) = HasNotFailed g old new
 IsReplayCause g old new (Worn which) = HasNotFailed g old new
 IsReplayCause g old new NoMemory = HasNotFailed g old new
 IsReplayCause g old new (Full free need) = ⊥
 IsReplayCause g old new (Stopped call) = ⊥
 
--- of the device's calls none failed at Ok, and at an error it has failed just where that says so
+-- of the device's calls none failed at Ok, and at an error the last one alone where that says so
 pub record HasReplayCause {D T : Type 0} (g : Ghosts D) (old new : Volume D)
     (result : Result T Fault) : Type 0 where
   pub kept : OnOk result (HasNotFailed g old new)
   pub failed : IfErr result (IsReplayCause g old new)
 
--- what is known of nodes stays so, with their checkpoint, and no block becomes bad
+-- what is known of nodes stays so, and no block becomes bad, also where they aren't sound
 pub record KeepsGood {D : Type 0} (g : Ghosts D) (old new : EngineState D) : Type 0 where
   pub known : is_known g old.pager → is_known g new.pager
   pub bad : is_known g old.pager → NoneTurnsBad (g.contents old.pager.dev) (spots_of old.pager)
       (g.contents new.pager.dev) (spots_of new.pager)
-  pub at : new.pager.at ≡ old.pager.at
+  pub first : (b : ℕ) → is_first_damaged g new.pager b → is_first_damaged g old.pager b
 
 -- nothing was written but nodes, early, to slots that the last checkpoint doesn't hold: log and last
 -- checkpoint stay, and an image that a crash leaves, inside the calls or after them, stands for all
@@ -195,6 +195,7 @@ pub record ReplaysFront {D : Type 0} (g : Ghosts D) (list rest : List PlacedComm
   pub good : KeepsGood g old.engine new.engine
   pub done : (t : Tree) → HasTreeOn g old t → HasReplayed g t front old new
   pub count_is : count_of new ≡ count_of old + length front
+  pub few : new.engine.flushes ≤ old.engine.flushes + flush_limit * length front
 
 -- the first commands were replayed, and the next one wasn't
 pub record StopsReplaying {D : Type 0} (g : Ghosts D) (fault : Fault) (list : List PlacedCommand)
@@ -204,3 +205,12 @@ pub record StopsReplaying {D : Type 0} (g : Ghosts D) (fault : Fault) (list : Li
   pub mid : Volume D
   pub before : ReplaysFront g list (next ∷ rest) old mid
   pub cause : IsReplayFault g fault next mid
+
+-- the same, and what is told of it where the nodes may not be known
+pub record ShowsReplay {D : Type 0} (g : Ghosts D) (fault : Fault) (list : List PlacedCommand)
+    (old new : Volume D) : Type 0 where
+  pub next : PlacedCommand
+  pub rest : List PlacedCommand
+  pub mid : Volume D
+  pub before : ReplaysFront g list (next ∷ rest) old mid
+  pub shows : ShowsFault g fault (count_of mid) mid.engine.flushes next.command new.engine

@@ -15,28 +15,33 @@ use Rattle.bd_view.specs.Trees.{HasSent, waiting_limit}
 use Rattle.bd_view.specs.Views.{View, free_slots, need_slots, record_room, log_size}
 use Rattle.bd_view.specs.Moves.{OnlyNodes, HasStepped, IsCommandFull, CannotSave, logged}
 use Rattle.bd_engine.specs.Engines.{EngineState, view_of as view_in}
+use Rattle.bd_engine.specs.Writes.{WritesOn}
 use Rattle.bd_volume.specs.declared.fault.Fault.{Fault}
 use Rattle.bd_volume.specs.declared.fault.Fault.TheVariants.{Device, Damaged, Worn, NoMemory, Full, Stopped}
 use Rattle.bd_volume.specs.declared.volume.Volume.{Volume}
 use Rattle.bd_volume.specs.Faults.{HasNotFailed, HasFaultCause, IsGoing, IsStoppedRightly}
 use Rattle.bd_volume.specs.Volume.{StandsFor, GoesBy, IsSafeOn, count_of, device_of}
-use Rattle.bd_volume.specs.Wears.{IsWornForStep, IsWornForSave, Wears, ShowsWorn}
+use Rattle.bd_volume.specs.Wears.{IsWornForStep, IsWornForSave, Wears, ShowsWornIn, ShowsWorn}
 
 -- ---- whatever is known
 
--- no call of the device failed, the volume isn't stopped, and its count stays
+-- no call of the device failed, the volume isn't stopped, and its count stays; which blocks were
+-- written
 pub record GoesOn {D : Type 0} (g : Ghosts D) (old new : Volume D) : Type 0 where
   pub going : IsGoing g old new
   pub faults : HasNotFailed g old new
   pub count_is : count_of new ≡ count_of old
   pub stays : Stays g (device_of old) (device_of new)
+  pub writes : WritesOn g old.engine new.engine
 
--- each fault has its cause, and the volume is stopped by a failed write or barrier alone
+-- each fault has its cause, and the volume is stopped by a failed write or barrier alone; which
+-- blocks were written
 pub record Ends {D T : Type 0} (g : Ghosts D) (old new : Volume D) (result : Result T Fault)
     : Type 0 where
   pub cause : HasFaultCause g old new result
   pub stop : IsStoppedRightly g old new result
   pub stays : Stays g (device_of old) (device_of new)
+  pub writes : WritesOn g old.engine new.engine
 
 -- so many slots are free, the next step of a command needs more, so many, and no checkpoint helps
 pub record IsShort (c : Command) (v : View) (free need : ℕ) : Type 0 where
@@ -45,14 +50,23 @@ pub record IsShort (c : Command) (v : View) (free need : ℕ) : Type 0 where
   pub short : free < need
   pub unsaved : CannotSave v
 
--- what is told of a command's fault where the nodes may not be known, after so many commands
-abbrev pub ShowsFault : {D : Type 0} → Ghosts D → Fault → ℕ → Command → EngineState D → Type 0
-ShowsFault g Device count c e = ⊤
-ShowsFault g (Damaged block) count c e = ⊤
-ShowsFault g (Worn which) count c e = ShowsWorn g which count c e
-ShowsFault g NoMemory count c e = ⊤
-ShowsFault g (Full free need) count c e = IsShort c (view_in g e) free need
-ShowsFault g (Stopped call) count c e = ⊤
+-- what is told of a fault of a command's step where the nodes may not be known
+abbrev pub ShowsStep : {D : Type 0} → Ghosts D → Fault → Command → EngineState D → Type 0
+ShowsStep g Device c e = ⊤
+ShowsStep g (Damaged block) c e = ⊤
+ShowsStep g (Worn which) c e = ShowsWornIn g which c e
+ShowsStep g NoMemory c e = ⊤
+ShowsStep g (Full free need) c e = IsShort c (view_in g e) free need
+ShowsStep g (Stopped call) c e = ⊤
+
+-- and of the command's, after so many commands and flush steps
+abbrev pub ShowsFault : {D : Type 0} → Ghosts D → Fault → ℕ → ℕ → Command → EngineState D → Type 0
+ShowsFault g Device count before c e = ⊤
+ShowsFault g (Damaged block) count before c e = ⊤
+ShowsFault g (Worn which) count before c e = ShowsWorn g which count before c e
+ShowsFault g NoMemory count before c e = ⊤
+ShowsFault g (Full free need) count before c e = IsShort c (view_in g e) free need
+ShowsFault g (Stopped call) count before c e = ⊤
 
 -- ---- what it stands for
 

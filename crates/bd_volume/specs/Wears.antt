@@ -1,5 +1,5 @@
 -- Which counter has no room, where a command can't go on.
-use Rattle.std.specs.Prelude.{◌≡◌, ℕ, ◌+◌, ◌^◌, ◌<◌, ◌≤◌, ◌⊎◌, Bool, List, ◌∷◌, ◌++◌, length, IsTrue}
+use Rattle.std.specs.Prelude.{◌≡◌, ℕ, ◌+◌, ◌^◌, ◌<◌, ◌≤◌, ◌⊎◌, Bool, List, ◌∷◌, ◌++◌, length, IsTrue, ⊤}
 use Rattle.bd_limits.specs.Limits.{flush_limit}
 use Rattle.bd_command.specs.Command.{writes}
 use Rattle.bd_command.specs.declared.Command.{Command}
@@ -22,7 +22,8 @@ use Rattle.bd_super.specs.declared.superblock.Super.{Super}
 use Rattle.bd_view.specs.Views.{View, keys_of}
 use Rattle.bd_view.specs.Moves.{AreFlushedAgain, AreReplayed, CallsForSave, HasStepped}
 use Rattle.bd_view.specs.Reclaiming.{IsNextChange, HasReclaimed}
-use Rattle.bd_engine.specs.Engines.{EngineState, IsWornIn}
+use Rattle.bd_engine.specs.Engines.{EngineState, flushed_on, IsWornIn}
+use Rattle.bd_engine.specs.Reclaiming.{MayMake, IsWornToChange}
 use Rattle.bd_engine.specs.Stored.{IsFound}
 
 -- the counter has no room for the flush step that is found, or 65,536 were made
@@ -81,14 +82,50 @@ pub record Wears (which : Counter) (count : ℕ) (c : Command) (old new : View) 
   pub stepped : HasStepped c old new
   pub worn : IsWornNow which count c stepped.made old new
 
--- the same as far as it is told of nodes that may not be known
-abbrev pub ShowsWorn : {D : Type 0} → Ghosts D → Counter → ℕ → Command → EngineState D → Type 0
-ShowsWorn g Count count c e = 2 ^ 64 ≤ count + 1
-ShowsWorn g NextId count c e = IsWornIn g e.pager NextId ⊎ IsWornForGraft (table_of e.pager) NextId
-ShowsWorn g Level count c e = IsWornIn g e.pager Level ⊎ IsWornForGraft (table_of e.pager) Level
-ShowsWorn g Refs count c e = IsWornIn g e.pager Refs ⊎ IsWornForGraft (table_of e.pager) Refs
-ShowsWorn g Epoch count c e = 2 ^ 64 ≤ e.live.epoch + 1
-ShowsWorn g Flushes count c e = waiting_limit c < (table_of e.pager).size
+-- the kind of a command that is a graft
+abbrev pub IsGraftKind : Kind → Type 0
+IsGraftKind Reads = ⊥
+IsGraftKind Sends = ⊥
+IsGraftKind SendsLate = ⊥
+IsGraftKind (Grafts s d keep) = ⊤
+
+-- a command needs one more flush step, for which the counter has no room, where the nodes may not be
+-- known
+pub record ShowsWornStep {D : Type 0} (g : Ghosts D) (which : Counter) (c : Command)
+    (e : EngineState D) : Type 0 where
+  pub waits : waiting_limit c < (table_of e.pager).size
+  pub worn : IsWornIn g e.pager which
+
+-- a command is a graft that needs no more flush steps, and for which the counter has no room
+pub record ShowsWornMove {D : Type 0} (which : Counter) (c : Command) (e : EngineState D) : Type 0 where
+  pub enough : (table_of e.pager).size ≤ waiting_limit c
+  pub grafts : IsGraftKind (kind_of c)
+  pub worn : IsWornForGraft (table_of e.pager) which
+
+-- what is told of a step of a command, or of its sending, where the nodes may not be known
+abbrev pub ShowsWornIn : {D : Type 0} → Ghosts D → Counter → Command → EngineState D → Type 0
+ShowsWornIn g Count c e = ⊥
+ShowsWornIn g NextId c e = ShowsWornStep g NextId c e ⊎ ShowsWornMove NextId c e
+ShowsWornIn g Level c e = ShowsWornStep g Level c e ⊎ ShowsWornMove Level c e
+ShowsWornIn g Refs c e = ShowsWornStep g Refs c e ⊎ ShowsWornMove Refs c e
+ShowsWornIn g Epoch c e = 2 ^ 64 ≤ e.live.epoch + 1
+ShowsWornIn g Flushes c e = ⊥
+
+-- a command has made all the flush steps that it may, where so many were made before it, and needs
+-- one more
+pub record HasFlushedAll {D : Type 0} (before : ℕ) (c : Command) (e : EngineState D) : Type 0 where
+  pub made : e.flushes ≡ flushed_on before flush_limit
+  pub waits : waiting_limit c < (table_of e.pager).size
+
+-- which counter has no room, after so many commands, as far as it is told of nodes that may not be
+-- known
+abbrev pub ShowsWorn : {D : Type 0} → Ghosts D → Counter → ℕ → ℕ → Command → EngineState D → Type 0
+ShowsWorn g Count count before c e = 2 ^ 64 ≤ count + 1
+ShowsWorn g NextId count before c e = ShowsWornIn g NextId c e
+ShowsWorn g Level count before c e = ShowsWornIn g Level c e
+ShowsWorn g Refs count before c e = ShowsWornIn g Refs c e
+ShowsWorn g Epoch count before c e = ShowsWornIn g Epoch c e
+ShowsWorn g Flushes count before c e = HasFlushedAll before c e
 
 -- ---- replay
 
@@ -149,3 +186,20 @@ IsWornToReclaim Flushes v = ⊥
 pub record WearsReclaiming (which : Counter) (old new : View) : Type 0 where
   pub begun : HasBegunReclaiming old new
   pub worn : IsWornToReclaim which new
+
+-- a change that may be made, as far as the table tells, has no room in the counter
+pub record ShowsWornChange {D : Type 0} (g : Ghosts D) (which : Counter) (e : EngineState D)
+    : Type 0 where
+  pub change : Reclaim
+  pub may : MayMake g e.pager change
+  pub worn : IsWornToChange g e.pager change which
+
+-- which counter has no room where reclaiming goes on, as far as it is told of nodes that may not be
+-- known
+abbrev pub ShowsWornToReclaim : {D : Type 0} → Ghosts D → Counter → EngineState D → Type 0
+ShowsWornToReclaim g Count e = ⊥
+ShowsWornToReclaim g NextId e = ShowsWornChange g NextId e
+ShowsWornToReclaim g Level e = ShowsWornChange g Level e
+ShowsWornToReclaim g Refs e = ShowsWornChange g Refs e
+ShowsWornToReclaim g Epoch e = 2 ^ 64 ≤ e.live.epoch + 1
+ShowsWornToReclaim g Flushes e = ⊥

@@ -5,7 +5,9 @@
 #![tactic(auto)]
 
 mod fault;
+mod unstarted;
 mod volume;
 
 pub use fault::{Fault, Refused};
+pub use unstarted::Unstarted;
 pub use volume::Volume;

@@ -19,10 +19,12 @@ ghost use Rattle.bd_view.specs.Moves.{HasStepped, IsAccepted, synced, Saves, IsC
 ghost use Rattle.bd_view.specs.Reclaiming.{edge_need, IsReclaim, IsReclaimFull};
 ghost use Rattle.bd_engine.specs.Engines.{keys_of, IsSoundOn};
 ghost use Rattle.bd_engine.specs.Stored.{HasSaved};
+ghost use Rattle.bd_engine.specs.Writes.{WritesOn};
 ghost use Rattle.bd_volume.specs.Faults.{image_fault_of, IsOfImage, IsStartCause, HasFaultCause, IsStoppedRightly};
 ghost use Rattle.bd_volume.specs.Starts.{OnlyStarts, HasStarted};
+ghost use Rattle.bd_volume.specs.Unstarted.{fault_in, device_left, ShowsWornLeft};
 ghost use Rattle.bd_volume.specs.Volume.{StandsFor, GoesBy, IsFirstView, KeepsKeys, view_of, count_of, device_of, stop_of};
-ghost use Rattle.bd_volume.specs.Wears.{Wears, ShowsWorn, WearsReplaying, HasBegunReclaiming, WearsReclaiming};
+ghost use Rattle.bd_volume.specs.Wears.{Wears, ShowsWorn, WearsReplaying, HasBegunReclaiming, WearsReclaiming, ShowsWornToReclaim};
 
 mod executing;
 mod readying;
@@ -31,6 +33,7 @@ mod replaying;
 mod saving;
 
 use crate::fault::{Fault, Refused};
+use crate::unstarted::{Left, Unstarted};
 use bd_command::laws::log_records_are_prefix_free;
 use bd_command::{Command, Reply};
 use bd_device::Device;
@@ -55,10 +58,13 @@ impl<D: Device> Volume<D> {
     /// doesn't hold, and a crash then still leaves what stands for the same. No graft of theirs is
     /// told. From an image that stands for a tree it starts unless the device fails, there is no
     /// memory or a counter has no room, and stands for that tree. Where it fails, it returns the
-    /// device. `Device` comes only where a call of the device failed. `Damaged` names a bad block of
-    /// the image (of a record of which the tree before it refuses the command, the first one of its
-    /// batch's body); `Full` and `Stopped` never come.
-    pub fn start(alloc: Global, device: D) -> Result<Volume<D>, Refused<D>>
+    /// device. `Device` comes only where a call of the device failed, which is the last one then.
+    /// `Damaged` names a bad block of the image (of a record of which the tree before it refuses
+    /// the command, the first one of its batch's body); `Full` and `Stopped` never come. `Worn`
+    /// comes of the next command of the log, also from an image that stands for no tree: what is
+    /// left is the volume after those before it, in which the counter has no room. All blocks stay
+    /// but those of slots that the last checkpoint doesn't hold, also where it fails.
+    pub fn start(alloc: Global, device: D) -> Result<Volume<D>, Unstarted<D>>
         ensures stands { IfOk result (λ v. (t : Tree) (n : ℕ)
             → IsSomeAnd (D.contents device) (ImageStandsFor t n) → StandsFor D.Device v t n) }
         ensures first { IfOk result (λ v. (t : Tree) (n : ℕ) → IfSome (D.contents device)
@@ -76,18 +82,23 @@ impl<D: Device> Volume<D> {
             (λ v. D.write_fault_count (device_of v) ≡ D.write_fault_count device) }
 
         // The fault, and the device that is returned.
-        ensures cause { IfErr result (λ refused.
-            IsStartCause D.Device device refused.device refused.fault) }
+        ensures cause { IfErr result (λ unstarted.
+            IsStartCause D.Device device (device_left unstarted) (fault_in unstarted)) }
         ensures undamaged { (t : Tree) (n : ℕ) → IsSomeAnd (D.contents device) (ImageStandsFor t n)
-            → IfErr result (λ refused. (block : ℕ) → refused.fault ≢ Fault.Damaged block) }
+            → IfErr result (λ unstarted. (block : ℕ)
+            → fault_in unstarted ≢ Fault.Damaged block) }
         ensures wears { (t : Tree) (n : ℕ) → IfSome (D.contents device)
-            (λ image. ImageStandsFor t n image → IfErr result (λ refused. (which : Counter)
-            → refused.fault ≡ Fault.Worn which → WearsReplaying which image)) }
-        ensures left { IfErr result (λ refused. OnlyStarts D.Device device refused.device) }
-        ensures starts { IfErr result (λ refused. 0 < D.block_count device
-            → ¬ FailsFirst D.Device device refused.device → (t : Tree) (n : ℕ)
+            (λ image. ImageStandsFor t n image → IfErr result (λ unstarted. (which : Counter)
+            → fault_in unstarted ≡ Fault.Worn which → WearsReplaying which image)) }
+        ensures shows { IfErr result (λ unstarted. (which : Counter)
+            → fault_in unstarted ≡ Fault.Worn which
+            → ShowsWornLeft D.Device which (D.contents device) unstarted.left) }
+        ensures left { IfErr result (λ unstarted.
+            OnlyStarts D.Device device (device_left unstarted)) }
+        ensures starts { IfErr result (λ unstarted. 0 < D.block_count device
+            → ¬ FailsFirst D.Device device (device_left unstarted) → (t : Tree) (n : ℕ)
             → IsSomeAnd (D.contents device) (ImageStandsFor t n)
-            → HasStarted D.Device device refused.device t n) }
+            → HasStarted D.Device device (device_left unstarted) t n) }
     {
         log_records_are_prefix_free();
         let Opened { engine, commands } = Engine::open(alloc, device)?;
@@ -96,16 +107,17 @@ impl<D: Device> Volume<D> {
         let mut volume = Volume { engine, count };
         match volume.replay(&commands) {
             Ok(()) => Ok(volume.forget_walk()),
-            Err(fault) => Err(Refused {
+            Err(fault) => Err(Unstarted {
                 fault,
-                device: volume.into_device(),
+                left: Left::Volume(volume),
             }),
         }
     }
 
     /// Makes an image of so many slots on a device, whatever it has, of the tree of `/` alone and of
     /// no commands, and starts from it. Where it fails, it returns the device, which may have no
-    /// image any more: `Device` comes only where a call of the device failed, else it is `NoMemory`.
+    /// image any more: `Device` comes only where a call of the device failed, which is the last one
+    /// then, else it is `NoMemory`.
     pub fn format(alloc: Global, device: D, slots: u32) -> Result<Volume<D>, Refused<D>>
         requires slots { IsSlotCount slots }
         requires size { D.block_count device ≡ image_blocks slots }
@@ -144,11 +156,12 @@ impl<D: Device> Volume<D> {
     ///
     /// `Full` comes only for such a command, where fewer slots are free than it needs and no
     /// checkpoint helps, with both numbers. So does `Worn`: of `Count` where the count of accepted
-    /// commands stands at its last value, and then no step is made; of `Flushes` where more than
-    /// 65,536 steps would be needed; of `Epoch` where a checkpoint has no room; of `NextId`, `Level`
-    /// and `Refs` where a step or the graft has none. A fault leaves what the volume stands for;
-    /// flush steps and checkpoints that were made stay. A failed write or barrier stops the volume,
-    /// and each later call is `Stopped`.
+    /// commands stands at its last value, and then no step is made; of `Flushes` where
+    /// 65,536 steps were made and one more is needed; of `Epoch` where a checkpoint has no room; of
+    /// `NextId`, `Level` and `Refs` where a step or the graft has none. A fault leaves what the
+    /// volume stands for; flush steps and checkpoints that were made stay. With no checkpoint made
+    /// no block was written but those of slots that the last one doesn't hold, unless a write or a
+    /// barrier failed. A failed write or barrier stops the volume, and each later call is `Stopped`.
     pub fn do_command(&mut self, command: &Command) -> Result<Reply, Fault>
         requires { IsCommand command.now }
         ensures step { IfOk result (λ reply. (t : Tree) (n : ℕ) → StandsFor D.Device self.old t n
@@ -193,7 +206,8 @@ impl<D: Device> Volume<D> {
             × (need ≡ need_slots command.now (view_of D.Device self.new))
             × CannotSave (view_of D.Device self.new) }
         ensures shows { (which : Counter) → result ≡ Err (Fault.Worn which)
-            → ShowsWorn D.Device which (count_of self.old) command.now self.new.engine }
+            → ShowsWorn D.Device which (count_of self.old) self.old.engine.flushes command.now
+            self.new.engine }
         ensures small { IfOk result IsReply }
         ensures counts { IfOk result (λ reply.
             count_of self.new ≡ count_of self.old + accepted command.now reply) }
@@ -206,6 +220,7 @@ impl<D: Device> Volume<D> {
         ensures stopped { (call : ℕ) → stop_of self.old ≡ Some call
             → (result ≡ Err (Fault.Stopped call)) × (self.new ≡ self.old) }
         ensures device { Stays D.Device (device_of self.old) (device_of self.new) }
+        ensures writes { WritesOn D.Device self.old.engine self.new.engine }
 
         // A fault leaves what stands at the keys of sound nodes, also where that is no tree.
         ensures keys { OnErr result (IsSoundOn D.Device self.old.engine
@@ -291,6 +306,7 @@ impl<D: Device> Volume<D> {
         ensures wears { (which : Counter) → result ≡ Err (Fault.Worn which)
             → (which ≡ Counter.Epoch) × (2 ^ 64 ≤ self.old.engine.live.epoch + 1) }
         ensures undamaged { (block : ℕ) → result ≢ Err (Fault.Damaged block) }
+        ensures unsaved { OnErr result (self.new.engine.live ≡ self.old.engine.live) }
         ensures count_stays { count_of self.new ≡ count_of self.old }
         ensures cause { HasFaultCause D.Device self.old self.new result }
         ensures stop { stop_of self.old ≡ None
@@ -298,6 +314,7 @@ impl<D: Device> Volume<D> {
         ensures stopped { (call : ℕ) → stop_of self.old ≡ Some call
             → (result ≡ Err (Fault.Stopped call)) × (self.new ≡ self.old) }
         ensures device { Stays D.Device (device_of self.old) (device_of self.new) }
+        ensures writes { WritesOn D.Device self.old.engine self.new.engine }
         ensures untouched { IfErr result (λ fault. fault ≢ Fault.Device
             → device_of self.new ≡ device_of self.old) }
         ensures keys { KeepsKeys D.Device self.old self.new }
@@ -316,7 +333,10 @@ impl<D: Device> Volume<D> {
     /// nodes along the edges that pending messages cut or cover, from the root down, until none is
     /// left or 4,096 pushes were made, with checkpoints between where too few slots are free; and a
     /// last checkpoint. What the volume stands for stays, and what stands at the keys of sound nodes
-    /// where that is no tree, also at a fault, which leaves the changes that were made.
+    /// where that is no tree, also at a fault, which leaves the changes that were made. It ends in
+    /// unsound nodes too: after at most `2 * most_left + 2` changes and checkpoints up to each push,
+    /// by the nodes that are kept (`Engine::most_left`). Of the blocks before the slots it writes
+    /// those alone by which checkpoints are published.
     ///
     /// `Full` comes where fewer slots are free than the first or the last checkpoint needs, or than
     /// the next change of an edge needs and no checkpoint helps, with both numbers; `Worn` where the
@@ -349,6 +369,8 @@ impl<D: Device> Volume<D> {
             → (free ≡ free_slots (view_of D.Device self.new))
             × ((need ≡ save_slots (view_of D.Device self.new))
             ⊎ (need ≡ edge_need (view_of D.Device self.new))) }
+        ensures shows { (which : Counter) → result ≡ Err (Fault.Worn which)
+            → ShowsWornToReclaim D.Device which self.new.engine }
         ensures count_stays { count_of self.new ≡ count_of self.old }
         ensures cause { HasFaultCause D.Device self.old self.new result }
         ensures damage { (block : ℕ) → result ≡ Err (Fault.Damaged block)
@@ -358,6 +380,7 @@ impl<D: Device> Volume<D> {
         ensures stopped { (call : ℕ) → stop_of self.old ≡ Some call
             → (result ≡ Err (Fault.Stopped call)) × (self.new ≡ self.old) }
         ensures device { Stays D.Device (device_of self.old) (device_of self.new) }
+        ensures writes { WritesOn D.Device self.old.engine self.new.engine }
         ensures keys { KeepsKeys D.Device self.old self.new }
     {
         if let Some(call) = self.engine.stop() {

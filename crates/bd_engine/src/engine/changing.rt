@@ -16,7 +16,7 @@ ghost use Rattle.bd_step.specs.Steps.{IsFound};
 ghost use Rattle.bd_pager.specs.Pagers.{nodes_of, table_of};
 ghost use Rattle.bd_recall.specs.Kept.{findings, KeepsWritten};
 ghost use Rattle.bd_view.specs.Trees.{waiting_limit, FlushesFor, HasAppended, HasGrafted, IsWalked};
-ghost use Rattle.bd_engine.specs.Engines.{view_of, keys_of, IsSoundOn, HasCause, IsWornIn, IsReadOn, OnlyNodesOn};
+ghost use Rattle.bd_engine.specs.Engines.{view_of, keys_of, IsSoundOn, flushes_after, HasCause, IsWornIn, IsReadOn, OnlyNodesOn};
 
 use super::Engine;
 use bd_command::{Command, Reply};
@@ -57,14 +57,15 @@ impl<D: Device> Engine<D> {
     }
 
     /// Makes a flush step of a writing command where more bytes wait in the root than its limit,
-    /// and says whether it did. What stands at the keys stays. It writes nothing, and a fault leaves
-    /// the view.
+    /// and says whether it did: the steps that were made are counted. What stands at the keys stays.
+    /// It writes nothing, and a fault leaves the view.
     pub fn flush(&mut self, command: &Command) -> Result<bool, MapFault>
         requires { IsTrue (writes command.now) }
         ensures enough { (result ≡ Ok false)
             ↔ ((table_of self.old.pager).size ≤ waiting_limit command.now) }
         ensures found { result ≡ Ok true
             → IsFound (table_of self.old.pager) (table_of self.new.pager) }
+        ensures counts { self.new.flushes ≡ flushes_after self.old.flushes result }
         ensures only { OnlyNodesOn D.Device self.old self.new }
         ensures walk { self.new.walk ≡ self.old.walk }
         ensures rest { result ≢ Ok true → IsReadOn D.Device self.old self.new }
@@ -81,6 +82,7 @@ impl<D: Device> Engine<D> {
     {
         self.tree.map.store().nodes_are_placed();
         let flushed = flush(&mut self.tree.map, command);
+        self.flushes = flushes_after(self.flushes, &flushed);
         self.tree.map.store().nodes_are_placed();
         flushed
     }
@@ -94,6 +96,7 @@ impl<D: Device> Engine<D> {
             (HasGrown (table_of self.old.pager) list.now (table_of self.new.pager)) }
         ensures only { OnlyNodesOn D.Device self.old self.new }
         ensures walk { self.new.walk ≡ self.old.walk }
+        ensures flushes { self.new.flushes ≡ self.old.flushes }
         ensures err { OnErr result (IsReadOn D.Device self.old self.new) }
         ensures cause { HasCause D.Device self.old.pager self.new.pager NeverWorn result }
 
@@ -120,6 +123,7 @@ impl<D: Device> Engine<D> {
         ensures walked { OnOk result
             (IsWalked (table_of self.old.pager) (table_of self.new.pager) self.new.walk) }
         ensures only { OnlyNodesOn D.Device self.old self.new }
+        ensures flushes { self.new.flushes ≡ self.old.flushes }
         ensures err { OnErr result (IsReadOn D.Device self.old self.new) }
         ensures cause { HasCause D.Device self.old.pager self.new.pager
             (IsWornForGraft (table_of self.old.pager)) result }
@@ -142,6 +146,16 @@ impl<D: Device> Engine<D> {
         self.tree.map.store().nodes_are_placed();
         grafted
     }
+}
+
+// How many flush steps were made after a call that says whether it made one.
+fn flushes_after(before: u64, flushed: &Result<bool, MapFault>) -> u64
+    ensures { result ≡ flushes_after before flushed.now }
+{
+    let Ok(true) = flushed else {
+        return before;
+    };
+    before.saturating_add(1)
 }
 
 // Keeps what is known of look-ups after messages, where they were put.

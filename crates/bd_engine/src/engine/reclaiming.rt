@@ -1,6 +1,6 @@
 //! What reclaiming finds in an engine's nodes, and does to them.
 
-ghost use Rattle.std.specs.Prelude.{◌≡◌, ◌<◌, ◌^◌, IfOk, IfSome, MatchOption, OnOk, OnErr};
+ghost use Rattle.std.specs.Prelude.{◌≡◌, ◌<◌, ◌≤◌, ◌^◌, IfOk, IfSome, MatchOption, OnOk, OnErr};
 ghost use Rattle.bd_message.specs.KeyMaps.{NeverWorn, SameAt};
 ghost use Rattle.bd_pager.specs.Pagers.{nodes_of, table_of};
 ghost use Rattle.bd_cover.specs.Walking.{IsFirst, HasNone};
@@ -8,12 +8,16 @@ ghost use Rattle.bd_cover.specs.Reclaimed.{IsReclaimed, left_over};
 ghost use Rattle.bd_reclaim.specs.Changes.{IsReclaimMade, LeavesLess};
 ghost use Rattle.bd_view.specs.Reclaiming.{edge_need, push_need};
 ghost use Rattle.bd_engine.specs.Engines.{view_of, keys_of, IsSoundOn, HasCause, IsReadOn, OnlyNodesOn};
-ghost use Rattle.bd_engine.specs.Reclaiming.{MayMake, IsWornToChange};
+ghost use Rattle.bd_engine.specs.Reclaiming.{MayMake, IsWornToChange, most_left};
 
 use super::Engine;
 use bd_cover::Reclaim;
 use bd_device::Device;
+use bd_limits::{MAX_BUFFER, MAX_EDGES, MAX_LEVEL};
 use bd_message::MapFault;
+
+// How many messages the edges of a node may not have seen, in sum.
+const LEFT_IN_NODE: u128 = MAX_EDGES as u128 * MAX_BUFFER as u128;
 
 // How many slots the change of an edge may need.
 const EDGE_SLOTS: u64 = 4;
@@ -44,6 +48,7 @@ impl<D: Device> Engine<D> {
         requires { MayMake D.Device self.old.pager change }
         ensures only { OnlyNodesOn D.Device self.old self.new }
         ensures walk { self.new.walk ≡ self.old.walk }
+        ensures flushes { self.new.flushes ≡ self.old.flushes }
         ensures err { OnErr result (IsReadOn D.Device self.old self.new) }
         ensures cause { HasCause D.Device self.old.pager self.new.pager
             (IsWornToChange D.Device self.old.pager change) result }
@@ -83,11 +88,14 @@ impl<D: Device> Engine<D> {
         self.save_need() + self.height() + PUSH_SLOTS
     }
 
-    /// In sound nodes changes that aren't pushes come to an end. It does nothing.
-    pub fn little_is_left(&self)
-        ensures { IsSoundOn D.Device self.now → left_over (nodes_of D.Device self.now.pager)
-            (table_of self.now.pager) < 2 ^ 90 }
+    /// How much may be left to change in sound nodes: each change but a push leaves less.
+    pub fn most_left(&self) -> u128
+        ensures value { result ≡ most_left (table_of self.now.pager) }
+        ensures most { IsSoundOn D.Device self.now → left_over (nodes_of D.Device self.now.pager)
+            (table_of self.now.pager) ≤ result }
+        ensures small { result < 2 ^ 90 }
     {
-        let _ = self.tree.map.store().next_id();
+        let kept = self.tree.map.store().kept();
+        u128::from(kept) * LEFT_IN_NODE + u128::from(MAX_LEVEL)
     }
 }

@@ -13,6 +13,7 @@ ghost use Rattle.bd_view.specs.Moves.{Saves};
 ghost use Rattle.bd_view.specs.Views.{changed_count, free_slots, save_slots};
 ghost use Rattle.bd_engine.specs.Engines.{view_of, keys_of, stop_after, IsSoundOn, IsGoingOn, IsStopped, IsBegunAnew};
 ghost use Rattle.bd_engine.specs.Stored.{HasSaved};
+ghost use Rattle.bd_engine.specs.Writes.{WritesOn};
 
 use super::Engine;
 use bd_checkpoint::checkpoint;
@@ -45,6 +46,7 @@ impl<D: Device> Engine<D> {
         ensures same { IsSoundOn D.Device self.old
             → SameAt (keys_of D.Device self.old.pager) (keys_of D.Device self.new.pager) }
         ensures walk { self.new.walk ≡ self.old.walk }
+        ensures flushes { self.new.flushes ≡ self.old.flushes }
 
         // What a crash leaves, inside it and after it.
         ensures time { (tree : Tree) → is_known D.Device self.old.pager
@@ -66,6 +68,7 @@ impl<D: Device> Engine<D> {
         ensures anew { OnOk result (IsBegunAnew self.new) }
         ensures same_live { OnErr result (self.new.live ≡ self.old.live) }
         ensures same_log { OnErr result (self.new.log ≡ self.old.log) }
+        ensures writes { WritesOn D.Device self.old self.new }
         ensures later { D.fault_count self.old.pager.dev ≤ D.fault_count self.new.pager.dev }
         ensures cause { IfErr result (IsCheckpointCause D.Device self.old.pager.dev
             self.new.pager.dev self.old.live) }

@@ -21,7 +21,8 @@ const MEMORY_LIMIT: u64 = 8;
 impl<D: Device> Engine<D> {
     /// Writes changed nodes early, those of the lowest level first, until at most eight of them are
     /// in memory or no slot is free, and no more than that. It writes without a barrier, to slots
-    /// alone that the last checkpoint doesn't hold. The view and what stands at the keys stay, also
+    /// alone that the last checkpoint doesn't hold: those of the nodes that it moves out of memory,
+    /// and where it fails that of the next one too. The view and what stands at the keys stay, also
     /// where it fails, and an image that a crash leaves, inside it or after it, stands for all that
     /// one of before stood for. `Failed` comes only where a call of the device failed, a write,
     /// which is the last one then and stops the engine. It needs no memory.

@@ -19,14 +19,12 @@ ghost use Rattle.bd_engine.specs.Stored.{IsFound, IsStoredBy, ArePlaced};
 use super::Engine;
 use bd_checkpoint::{Formatted, PlacedCommand, Recovered, format, recover};
 use bd_device::Device;
+use bd_limits::MAX_CACHED;
 use bd_log::laws::batches_are_one;
 use bd_pager::Refused;
 use bd_table::laws::tables_are_read_again;
 use bd_view::laws::kept_nodes_are_listed;
 use std::alloc::Global;
-
-// How many nodes that were read are kept in memory.
-const CACHE_ROOM: usize = 96;
 
 /// What is found in an image.
 #[derive(Drop)]
@@ -51,6 +49,7 @@ impl<D: Device> Engine<D> {
         ensures known { IsSome (D.contents dev)
             → IfOk result (λ o. is_known D.Device o.engine.pager) }
         ensures fresh { IfOk result (λ o. IsFreshOn D.Device o.engine) }
+        ensures flushes { IfOk result (λ o. o.engine.flushes ≡ 0) }
         ensures first { IfOk result (λ o. (tree : Tree) (count : ℕ) → IfSome (D.contents dev)
             (λ image. ImageStandsFor tree count image → IsFound image
             (view_of D.Device o.engine) (map (λ p. p.command) o.commands.items))) }
@@ -84,7 +83,7 @@ impl<D: Device> Engine<D> {
     {
         batches_are_one();
         tables_are_read_again();
-        let recovered = match recover(alloc, dev, CACHE_ROOM) {
+        let recovered = match recover(alloc, dev, MAX_CACHED) {
             Ok(recovered) => recovered,
             Err(refused) => return Err(refused),
         };
@@ -131,7 +130,7 @@ impl<D: Device> Engine<D> {
         ensures left { IfErr result (λ refused. Stays D.Device dev refused.device) }
     {
         kept_nodes_are_listed();
-        let formatted = match format(alloc, dev, slots, CACHE_ROOM) {
+        let formatted = match format(alloc, dev, slots, MAX_CACHED) {
             Ok(formatted) => formatted,
             Err(refused) => return Err(refused),
         };

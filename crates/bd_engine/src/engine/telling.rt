@@ -1,8 +1,9 @@
 //! What an engine tells of itself.
 
-ghost use Rattle.std.specs.Prelude.{◌≡◌, ℕ, None, IfSome};
+ghost use Rattle.std.specs.Prelude.{◌≡◌, ◌≤◌, ℕ, None, IfSome};
+ghost use Rattle.bd_limits.specs.Limits.{cached_limit};
 ghost use Rattle.bd_super.specs.Live.{IsLive};
-ghost use Rattle.bd_pager.specs.Pagers.{is_bad};
+ghost use Rattle.bd_pager.specs.Pagers.{cached_of, is_bad};
 ghost use Rattle.bd_checkpoint.specs.Recovering.{IsBadIn};
 ghost use Rattle.bd_view.specs.Views.{changed_count};
 ghost use Rattle.bd_engine.specs.Engines.{view_of, IsSoundOn};
@@ -28,6 +29,13 @@ impl<D: Device> Engine<D> {
         let pager = self.tree.map.store();
         pager.nodes_are_placed();
         pager.changed()
+    }
+
+    /// At most 64 nodes are cached, beside the root. It does nothing.
+    pub fn few_are_cached(&self)
+        ensures { cached_of self.now.pager ≤ cached_limit }
+    {
+        self.tree.map.store().few_are_cached();
     }
 
     /// What reads give is an image that starts from the last checkpoint's superblock, unless it is

@@ -55,8 +55,8 @@ impl<D: Device> Volume<D> {
             → StandsFor D.Device self.old t n → IsOfAccepted fault t command.now) }
 
         // Whatever is known.
-        ensures shows { IfErr result (λ fault.
-            ShowsFault D.Device fault (count_of self.old) command.now self.new.engine) }
+        ensures shows { IfErr result (λ fault. ShowsFault D.Device fault (count_of self.old)
+            self.old.engine.flushes command.now self.new.engine) }
         ensures small { IfOk result IsReply }
         ensures counts { IfOk result (λ reply.
             count_of self.new ≡ count_of self.old + accepted command.now reply) }
@@ -83,8 +83,8 @@ impl<D: Device> Volume<D> {
 
         // Whatever is known.
         ensures read { IsReadOn D.Device self.old.engine self.new.engine }
-        ensures shows { IfErr result (λ fault.
-            ShowsFault D.Device fault (count_of self.old) command.now self.new.engine) }
+        ensures shows { IfErr result (λ fault. ShowsFault D.Device fault (count_of self.old)
+            self.old.engine.flushes command.now self.new.engine) }
         ensures accepting { IfErr result (λ fault. (t : Tree) → IsOfAccepted fault t command.now) }
         ensures small { IfOk result IsReply }
         ensures ends { Ends D.Device self.old self.new result }
@@ -110,8 +110,8 @@ impl<D: Device> Volume<D> {
         ensures kind { IfOk result (IsPlanKind command.now) }
         ensures ready { IfOk result IsReady }
         ensures read { IsReadOn D.Device self.old.engine self.new.engine }
-        ensures shows { IfErr result (λ fault.
-            ShowsFault D.Device fault (count_of self.old) command.now self.new.engine) }
+        ensures shows { IfErr result (λ fault. ShowsFault D.Device fault (count_of self.old)
+            self.old.engine.flushes command.now self.new.engine) }
         ensures accepting { IfErr result (λ fault. (t : Tree) → IsOfAccepted fault t command.now) }
         ensures ends { Ends D.Device self.old self.new result }
         ensures count_stays { count_of self.new ≡ count_of self.old }
@@ -151,8 +151,8 @@ impl<D: Device> Volume<D> {
         ensures unmoved { IfOk result (λ reply. accepted command.now reply ≡ 0
             → view_of D.Device self.new ≡ view_of D.Device self.old) }
         ensures accepting { OnErr result (IsTrue (accepts plan)) }
-        ensures shows { IfErr result (λ fault.
-            ShowsFault D.Device fault (count_of self.old) command.now self.new.engine) }
+        ensures shows { IfErr result (λ fault. ShowsFault D.Device fault (count_of self.old)
+            self.old.engine.flushes command.now self.new.engine) }
         ensures small { IfOk result IsReply }
         ensures counts { IfOk result (λ reply.
             count_of self.new ≡ count_of self.old + accepted command.now reply) }
@@ -194,8 +194,8 @@ impl<D: Device> Volume<D> {
             (view_of D.Device self.old) (view_of D.Device self.new)) }
 
         // Whatever is known.
-        ensures shows { IfErr result (λ fault.
-            ShowsFault D.Device fault (count_of self.old) command.now self.new.engine) }
+        ensures shows { IfErr result (λ fault. ShowsFault D.Device fault (count_of self.old)
+            self.old.engine.flushes command.now self.new.engine) }
         ensures counts { OnOk result (count_of self.new ≡ count_of self.old + 1) }
         ensures count_stays { OnErr result (count_of self.new ≡ count_of self.old) }
         ensures ends { Ends D.Device self.old self.new result }
@@ -232,8 +232,8 @@ impl<D: Device> Volume<D> {
             (view_of D.Device self.old) (view_of D.Device self.new)) }
 
         // Whatever is known.
-        ensures shows { IfErr result (λ fault.
-            ShowsFault D.Device fault (count_of self.old) command.now self.new.engine) }
+        ensures shows { IfErr result (λ fault. ShowsFault D.Device fault (count_of self.old)
+            self.old.engine.flushes command.now self.new.engine) }
         ensures counts { OnOk result (count_of self.new ≡ count_of self.old + 1) }
         ensures count_stays { OnErr result (count_of self.new ≡ count_of self.old) }
         ensures ends { Ends D.Device self.old self.new result }

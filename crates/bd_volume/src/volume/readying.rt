@@ -7,9 +7,9 @@ ghost use Rattle.bd_view.specs.Trees.{waiting_limit};
 ghost use Rattle.bd_view.specs.Views.{free_slots, need_slots};
 ghost use Rattle.bd_view.specs.Moves.{AreSteps, HasStepped, CannotSave};
 ghost use Rattle.bd_pager.specs.Counting.{memory_of, IsFull};
-ghost use Rattle.bd_engine.specs.Engines.{memory_limit, IsSoundOn};
+ghost use Rattle.bd_engine.specs.Engines.{flushes_after, memory_limit, IsSoundOn};
 ghost use Rattle.bd_volume.specs.Volume.{view_of, count_of, stop_of};
-ghost use Rattle.bd_volume.specs.Steps.{Ends, ShowsFault, KeepsStanding, HasLogRoom, IsStepFault, IsCommandFault};
+ghost use Rattle.bd_volume.specs.Steps.{Ends, ShowsStep, ShowsFault, KeepsStanding, HasLogRoom, IsStepFault, IsCommandFault};
 
 use super::Volume;
 use crate::fault::Fault;
@@ -43,14 +43,15 @@ impl<D: Device> Volume<D> {
             ≤ free_slots (view_of D.Device self.new)) }
         ensures counts { OnOk result (count_of self.old + 1 < 2 ^ 64) }
         ensures log { OnOk result (HasLogRoom command.now (view_of D.Device self.new)) }
-        ensures shows { IfErr result (λ fault.
-            ShowsFault D.Device fault (count_of self.old) command.now self.new.engine) }
+        ensures shows { IfErr result (λ fault. ShowsFault D.Device fault (count_of self.old)
+            self.old.engine.flushes command.now self.new.engine) }
         ensures ends { Ends D.Device self.old self.new result }
         ensures count_stays { count_of self.new ≡ count_of self.old }
     {
         if self.count == u64::MAX {
             return Err(Fault::Worn(Counter::Count));
         }
+        let _ = self.engine.flushes();
         self.make_log_room(command)?;
         for _made in 0..MAX_FLUSHES {
             if !self.flush_step(command)? {
@@ -79,7 +80,8 @@ impl<D: Device> Volume<D> {
         // Whatever is known.
         ensures log { OnOk result (HasLogRoom command.now (view_of D.Device self.new)) }
         ensures shows { IfErr result (λ fault.
-            ShowsFault D.Device fault (count_of self.old) command.now self.new.engine) }
+            ShowsStep D.Device fault command.now self.new.engine) }
+        ensures flushes { self.new.engine.flushes ≡ self.old.engine.flushes }
         ensures ends { Ends D.Device self.old self.new result }
         ensures count_stays { count_of self.new ≡ count_of self.old }
     {
@@ -119,7 +121,9 @@ impl<D: Device> Volume<D> {
         ensures log { HasLogRoom command.now (view_of D.Device self.old)
             → HasLogRoom command.now (view_of D.Device self.new) }
         ensures shows { IfErr result (λ fault.
-            ShowsFault D.Device fault (count_of self.old) command.now self.new.engine) }
+            ShowsStep D.Device fault command.now self.new.engine) }
+        ensures counted { self.new.engine.flushes
+            ≡ flushes_after self.old.engine.flushes result }
         ensures ends { Ends D.Device self.old self.new result }
         ensures count_stays { count_of self.new ≡ count_of self.old }
     {
@@ -150,7 +154,8 @@ impl<D: Device> Volume<D> {
         ensures log { HasLogRoom command.now (view_of D.Device self.old)
             → HasLogRoom command.now (view_of D.Device self.new) }
         ensures shows { IfErr result (λ fault.
-            ShowsFault D.Device fault (count_of self.old) command.now self.new.engine) }
+            ShowsStep D.Device fault command.now self.new.engine) }
+        ensures flushes { self.new.engine.flushes ≡ self.old.engine.flushes }
         ensures ends { Ends D.Device self.old self.new result }
         ensures count_stays { count_of self.new ≡ count_of self.old }
     {
@@ -182,7 +187,8 @@ impl<D: Device> Volume<D> {
         ensures log { HasLogRoom command.now (view_of D.Device self.old)
             → HasLogRoom command.now (view_of D.Device self.new) }
         ensures shows { IfErr result (λ fault.
-            ShowsFault D.Device fault (count_of self.old) command.now self.new.engine) }
+            ShowsStep D.Device fault command.now self.new.engine) }
+        ensures flushes { self.new.engine.flushes ≡ self.old.engine.flushes }
         ensures ends { Ends D.Device self.old self.new result }
         ensures count_stays { count_of self.new ≡ count_of self.old }
     {

@@ -5,15 +5,15 @@ ghost use Rattle.bd_model.specs.Tree.{Tree};
 ghost use Rattle.bd_device.specs.Device.{left_now};
 ghost use Rattle.bd_device.specs.Moments.{IsOnly};
 ghost use Rattle.bd_checkpoint.specs.Kept.{AllStandFor};
-ghost use Rattle.bd_view.specs.Views.{changed_count, free_slots};
+ghost use Rattle.bd_view.specs.Views.{View, changed_count, free_slots};
 ghost use Rattle.bd_view.specs.Moves.{Saves};
-ghost use Rattle.bd_view.specs.Reclaiming.{allows_push, edge_need, pushes_in, HasRoomFor, IsNextChange, HasNoChange, IsReclaim};
+ghost use Rattle.bd_view.specs.Reclaiming.{allows_push, edge_need, pushes_in, HasRoomFor, IsNextChange, HasNoChange, AreReclaims, IsReclaim, push_limit};
 ghost use Rattle.bd_message.specs.KeyMaps.{SameAt};
 ghost use Rattle.bd_engine.specs.Engines.{keys_of, IsSoundOn, IsReadOn};
 ghost use Rattle.bd_engine.specs.Reclaiming.{MayMake};
 ghost use Rattle.bd_volume.specs.Volume.{StandsFor, KeepsKeys, view_of, count_of, device_of, stop_of};
 ghost use Rattle.bd_volume.specs.Steps.{Ends, KeepsStanding};
-ghost use Rattle.bd_volume.specs.Reclaims.{ChangesOnce, IsChangedTo, ChangesAll, IsEdgeSaveFault, IsChangeFault, StopsChanging, ShowsEdge, IsReclaimFault, ShowsReclaim};
+ghost use Rattle.bd_volume.specs.Reclaims.{ChangesOnce, IsChangedTo, IsPushedTo, ChangesAll, IsEdgeSaveFault, IsChangeFault, StopsChanging, ShowsEdge, IsReclaimFault, ShowsReclaim};
 
 use super::Volume;
 use crate::fault::Fault;
@@ -39,7 +39,7 @@ impl<D: Device> Volume<D> {
             (left_now D.Device (device_of self.new))) }
 
         // Whatever is known.
-        ensures shows { IfErr result (λ fault. ShowsReclaim fault (view_of D.Device self.new)) }
+        ensures shows { IfErr result (λ fault. ShowsReclaim D.Device fault self.new.engine) }
         ensures ends { Ends D.Device self.old self.new result }
         ensures count_stays { count_of self.new ≡ count_of self.old }
     {
@@ -49,8 +49,8 @@ impl<D: Device> Volume<D> {
     }
 
     // Makes changes of reclaiming until none is left, with a checkpoint before one for which too few
-    // slots are free. A fault leaves those that were made. In sound nodes they come to an end before
-    // the loop does.
+    // slots are free. A fault leaves those that were made. It goes from push to push, at most 4,097
+    // times: in sound nodes none is left before.
     fn change_all(&mut self) -> Result<(), Fault>
         requires { stop_of self.old ≡ None }
         ensures changes { IsSoundOn D.Device self.old.engine → OnOk result
@@ -61,20 +61,54 @@ impl<D: Device> Volume<D> {
         ensures keys { KeepsKeys D.Device self.old self.new }
 
         // Whatever is known.
-        ensures shows { IfErr result (λ fault. ShowsEdge fault (view_of D.Device self.new)) }
+        ensures shows { IfErr result (λ fault. ShowsEdge D.Device fault self.new.engine) }
         ensures ends { Ends D.Device self.old self.new result }
         ensures count_stays { count_of self.new ≡ count_of self.old }
     {
         let mut pushes = 0u64;
-        self.engine.little_is_left();
-        for _made in 0..u128::MAX {
-            let Some(after) = self.change_once(pushes)? else {
+        for _push in 0..MAX_PUSHES + 1 {
+            let Some(after) = self.change_to_push(pushes)? else {
                 return Ok(());
             };
             pushes = after;
-            self.engine.little_is_left();
         }
         Ok(())
+    }
+
+    // After so many pushes, makes changes up to the next push, and says how many pushes there were
+    // then; or none, where no change is left. Each change but a push leaves less to change, and a
+    // checkpoint comes between two of them at most once: so in sound nodes they come to an end
+    // before the loop does, whose bound is that of the nodes that are kept.
+    fn change_to_push(&mut self, pushes: u64) -> Result<Option<u64>, Fault>
+        requires { stop_of self.old ≡ None }
+        ensures changes { IsSoundOn D.Device self.old.engine → pushes ≤ push_limit → (first : View)
+            → AreReclaims pushes first (view_of D.Device self.old)
+            → IfOk result (λ left. IsPushedTo pushes left first (view_of D.Device self.new)) }
+        ensures fails { IsSoundOn D.Device self.old.engine → (first : View)
+            → AreReclaims pushes first (view_of D.Device self.old)
+            → IfErr result (λ fault. StopsChanging fault first (view_of D.Device self.new)) }
+        ensures sound { IsSoundOn D.Device self.old.engine
+            → IsSoundOn D.Device self.new.engine }
+        ensures same { IsSoundOn D.Device self.old.engine
+            → SameAt (keys_of D.Device self.old.engine.pager)
+            (keys_of D.Device self.new.engine.pager) }
+        ensures keeps { KeepsStanding D.Device self.old self.new }
+
+        // Whatever is known.
+        ensures shows { IfErr result (λ fault. ShowsEdge D.Device fault self.new.engine) }
+        ensures ends { Ends D.Device self.old self.new result }
+        ensures count_stays { count_of self.new ≡ count_of self.old }
+    {
+        let most = 2 * self.engine.most_left() + 2;
+        for _made in 0..most {
+            let Some(after) = self.change_once(pushes)? else {
+                return Ok(None);
+            };
+            if pushes < after {
+                return Ok(Some(after));
+            }
+        }
+        Ok(None)
     }
 
     // After so many pushes, makes the next change, or a checkpoint where too few slots are free for
@@ -96,7 +130,7 @@ impl<D: Device> Volume<D> {
         ensures keeps { KeepsStanding D.Device self.old self.new }
 
         // Whatever is known.
-        ensures shows { IfErr result (λ fault. ShowsEdge fault (view_of D.Device self.new)) }
+        ensures shows { IfErr result (λ fault. ShowsEdge D.Device fault self.new.engine) }
         ensures ends { Ends D.Device self.old self.new result }
         ensures count_stays { count_of self.new ≡ count_of self.old }
     {
@@ -124,7 +158,7 @@ impl<D: Device> Volume<D> {
         ensures may { IfOk result (λ found.
             IfSome found (MayMake D.Device self.new.engine.pager)) }
         ensures read { IsReadOn D.Device self.old.engine self.new.engine }
-        ensures shows { IfErr result (λ fault. ShowsEdge fault (view_of D.Device self.new)) }
+        ensures shows { IfErr result (λ fault. ShowsEdge D.Device fault self.new.engine) }
         ensures ends { Ends D.Device self.old self.new result }
         ensures count_stays { count_of self.new ≡ count_of self.old }
     {
@@ -156,7 +190,7 @@ impl<D: Device> Volume<D> {
         ensures keeps { KeepsStanding D.Device self.old self.new }
 
         // Whatever is known.
-        ensures shows { IfErr result (λ fault. ShowsEdge fault (view_of D.Device self.new)) }
+        ensures shows { IfErr result (λ fault. ShowsEdge D.Device fault self.new.engine) }
         ensures ends { Ends D.Device self.old self.new result }
         ensures count_stays { count_of self.new ≡ count_of self.old }
     {

@@ -12,9 +12,10 @@ ghost use Rattle.bd_dirs.specs.Sendings.{Batch, Move};
 ghost use Rattle.bd_dirs.specs.declared.plan.Plan.TheVariants as plan;
 ghost use Rattle.bd_view.specs.Trees.{waiting_limit};
 ghost use Rattle.bd_view.specs.Moves.{FlushesAgain, AreFlushedAgain};
-ghost use Rattle.bd_engine.specs.Engines.{keys_of, IsSoundOn};
+ghost use Rattle.bd_engine.specs.Engines.{keys_of, flushes_after, IsSoundOn};
 ghost use Rattle.bd_volume.specs.Volume.{view_of, without_walk, count_of, stop_of};
-ghost use Rattle.bd_volume.specs.Replays.{ReplaysEarly, HasReplayCause, HasTreeOn, SendsAgain, HasFlushedAgain, ReplaysOn, IsFlushFault, IsAgainFault, IsSendFault, IsReplayFault, ReplaysFront, StopsReplaying};
+ghost use Rattle.bd_volume.specs.Replays.{ReplaysEarly, HasReplayCause, HasTreeOn, SendsAgain, HasFlushedAgain, ReplaysOn, IsFlushFault, IsAgainFault, IsSendFault, IsReplayFault, ReplaysFront, StopsReplaying, ShowsReplay};
+ghost use Rattle.bd_volume.specs.Steps.{ShowsStep, ShowsFault};
 
 use super::Volume;
 use crate::fault::Fault;
@@ -35,6 +36,8 @@ impl<D: Device> Volume<D> {
             (ReplaysFront D.Device commands.now [] self.old self.new) }
         ensures fails { IfErr result (λ fault.
             StopsReplaying D.Device fault commands.now self.old) }
+        ensures shows { IfErr result (λ fault.
+            ShowsReplay D.Device fault commands.now self.old self.new) }
         ensures writes { ReplaysEarly D.Device self.old self.new result }
         ensures cause { HasReplayCause D.Device self.old self.new result }
     {
@@ -66,6 +69,9 @@ impl<D: Device> Volume<D> {
         ensures counts { OnOk result (count_of self.new ≡ count_of self.old + 1) }
         ensures fails { IfErr result (λ fault.
             IsReplayFault D.Device fault placed.now self.old) }
+        ensures shows { IfErr result (λ fault. ShowsFault D.Device fault (count_of self.old)
+            self.old.engine.flushes placed.now.command self.new.engine) }
+        ensures few { self.new.engine.flushes ≤ self.old.engine.flushes + flush_limit }
         ensures writes { ReplaysEarly D.Device self.old self.new result }
         ensures cause { HasReplayCause D.Device self.old self.new result }
     {
@@ -91,6 +97,9 @@ impl<D: Device> Volume<D> {
             → IsSoundOn D.Device self.new.engine }
         ensures fails { IfErr result (λ fault.
             IsSendFault D.Device fault placed.now plan self.old) }
+        ensures shows { IfErr result (λ fault. ShowsFault D.Device fault (count_of self.old)
+            self.old.engine.flushes placed.now.command self.new.engine) }
+        ensures few { self.new.engine.flushes ≤ self.old.engine.flushes + flush_limit }
         ensures writes { ReplaysEarly D.Device self.old self.new result }
         ensures cause { HasReplayCause D.Device self.old self.new result }
         ensures count_stays { count_of self.new ≡ count_of self.old }
@@ -121,6 +130,9 @@ impl<D: Device> Volume<D> {
             → IsSoundOn D.Device self.new.engine }
         ensures fails { IfErr result (λ fault.
             IsAgainFault D.Device fault command.now self.old) }
+        ensures shows { IfErr result (λ fault. ShowsFault D.Device fault (count_of self.old)
+            self.old.engine.flushes command.now self.new.engine) }
+        ensures few { self.new.engine.flushes ≤ self.old.engine.flushes + flush_limit }
         ensures writes { ReplaysEarly D.Device self.old self.new result }
         ensures cause { HasReplayCause D.Device self.old self.new result }
         ensures count_stays { count_of self.new ≡ count_of self.old }
@@ -151,6 +163,9 @@ impl<D: Device> Volume<D> {
             → IsSoundOn D.Device self.new.engine }
         ensures fails { IfErr result (λ fault.
             IsAgainFault D.Device fault command.now self.old) }
+        ensures shows { IfErr result (λ fault. ShowsFault D.Device fault (count_of self.old)
+            self.old.engine.flushes command.now self.new.engine) }
+        ensures few { self.new.engine.flushes ≤ self.old.engine.flushes + flush_limit }
         ensures writes { ReplaysEarly D.Device self.old self.new result }
         ensures cause { HasReplayCause D.Device self.old self.new result }
         ensures count_stays { count_of self.new ≡ count_of self.old }
@@ -173,12 +188,16 @@ impl<D: Device> Volume<D> {
             → IsSoundOn D.Device self.new.engine }
         ensures fails { IfErr result (λ fault.
             IsAgainFault D.Device fault command.now self.old) }
+        ensures shows { IfErr result (λ fault. ShowsFault D.Device fault (count_of self.old)
+            self.old.engine.flushes command.now self.new.engine) }
+        ensures few { self.new.engine.flushes ≤ self.old.engine.flushes + flush_limit }
         ensures enough { OnOk result
             ((table_of self.new.engine.pager).size ≤ waiting_limit command.now) }
         ensures writes { ReplaysEarly D.Device self.old self.new result }
         ensures cause { HasReplayCause D.Device self.old self.new result }
         ensures count_stays { count_of self.new ≡ count_of self.old }
     {
+        let _ = self.engine.flushes();
         for _made in 0..MAX_FLUSHES {
             if !self.flush_once(command)? {
                 return Ok(());
@@ -206,6 +225,10 @@ impl<D: Device> Volume<D> {
             → IsSoundOn D.Device self.new.engine }
         ensures fails { IfErr result (λ fault.
             IsFlushFault D.Device fault command.now self.old) }
+        ensures shows { IfErr result (λ fault.
+            ShowsStep D.Device fault command.now self.new.engine) }
+        ensures counted { self.new.engine.flushes
+            ≡ flushes_after self.old.engine.flushes result }
         ensures enough { result ≡ Ok false
             → (table_of self.new.engine.pager).size ≤ waiting_limit command.now }
         ensures writes { ReplaysEarly D.Device self.old self.new result }

@@ -60,6 +60,7 @@ impl<D: Device> Volume<D> {
         ensures same_log { OnErr result (self.new.engine.log ≡ self.old.engine.log) }
         ensures fails { IfErr result (IsSaveFault self.old self.new) }
         ensures ends { Ends D.Device self.old self.new result }
+        ensures flushes { self.new.engine.flushes ≡ self.old.engine.flushes }
         ensures count_stays { count_of self.new ≡ count_of self.old }
         ensures untouched { IfErr result (λ fault. fault ≢ Fault.Device
             → device_of self.new ≡ device_of self.old) }
@@ -85,6 +86,7 @@ impl<D: Device> Volume<D> {
         ensures keeps { KeepsStanding D.Device self.old self.new }
         ensures kind { IfErr result (λ fault. fault ≡ Fault.Device) }
         ensures ends { Ends D.Device self.old self.new result }
+        ensures flushes { self.new.engine.flushes ≡ self.old.engine.flushes }
         ensures count_stays { count_of self.new ≡ count_of self.old }
     {
         match self.engine.spill() {

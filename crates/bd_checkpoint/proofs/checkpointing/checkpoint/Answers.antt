@@ -1,11 +1,12 @@
 use Rattle.std.proofs.Common.{◌≡◌, ℕ, Option, Err, sym, ap, subst, ◌∙◌, rules, arith}
 use Rattle.std.specs.Prelude.{IsSome}
 use Rattle.bd_slots.specs.Layout.{image_blocks}
+use Rattle.bd_device.specs.Changes.{StaysBut}
 use Rattle.bd_device.specs.Device.{left_now, Goes, Stays}
 use Rattle.bd_device.specs.Moments.{IsOnly}
 use Rattle.bd_device.proofs.Calls.{stays_then}
 use Rattle.bd_message.specs.declared.fault.MapFault.{MapFault}
-use Rattle.bd_super.specs.Superblocks.{log_block}
+use Rattle.bd_super.specs.Superblocks.{log_block, other}
 use Rattle.bd_super.specs.declared.superblock.Super.{Super}
 use Rattle.bd_log.specs.Logs.{LogState, fresh_log}
 use Rattle.bd_pager.specs.declared.written.Written.{Written}
@@ -15,7 +16,8 @@ use Rattle.bd_checkpoint.specs.Following.{super_after}
 use Rattle.bd_checkpoint.specs.Kept.{IsOpenOn, AllStandFor}
 use Rattle.bd_checkpoint.specs.Recovering.{saved_of}
 use Rattle.bd_checkpoint.specs.Saving.{IsCheckpointCause}
-use Rattle.bd_checkpoint.proofs.Checkpointed.{written_cause, failed_after, open_mid, time_mid, stopped_mid, time_last, stopped_last, place_mid, slots_mid, next_mid, follows_mid, size_mid}
+use Rattle.bd_checkpoint.specs.Surviving.{IsOfHalfOrSpare}
+use Rattle.bd_checkpoint.proofs.Checkpointed.{writes_mid, writes_last, written_cause, failed_after, open_mid, time_mid, stopped_mid, time_last, stopped_last, place_mid, slots_mid, next_mid, follows_mid, size_mid}
 use Rattle.bd_checkpoint.proofs.Published.{of_today}
 use Rattle.bd_checkpoint.proofs.Marked.{untouched, unsaved, written_for, at_new, device_new, saved_new, open_new}
 use Rattle.bd_checkpoint.proofs.Starting.{PartsAreOne}
@@ -53,6 +55,9 @@ returns-in-Err-clause-cause g c =
     let mid = c.write_out.new.self.dev in
     subst (λ (f : MapFault). IsCheckpointCause g.D.Device old mid c.args.live.now f) (sym c.map_fault.ensures)
     (written_cause g.D.Device old mid c.args.live.now c.in-Err.fault c.in-Err.ensures.cause.failed (λ e. ap (λ (p : Paged g.row.D.Denot). p.dev) (c.in-Err.ensures.no_memory (ap Err e))))
+
+pub returns-in-Err-clause-writes : goal.returns-in-Err-clause-writes
+returns-in-Err-clause-writes g c = writes_mid g.D.Device c.args.pager.now c.write_out.new.self (other c.args.live.now.half) c.in-Err.ensures.spills
 
 -- ---- the superblock is published
 
@@ -114,6 +119,10 @@ returns-in-Err-publish_by-clause-goes_on g c =
 
 pub returns-in-Err-publish_by-clause-cause : goal.returns-in-Err-publish_by-clause-cause
 returns-in-Err-publish_by-clause-cause g c = failed_after g.D.Device c.args.pager.now.dev c.write_out.new.self.dev c.publish_by.new.pager.dev c.in-Ok.ensures.cause.kept c.in-Err-publish_by.ensures.cause.failed
+
+pub returns-in-Err-publish_by-clause-writes : goal.returns-in-Err-publish_by-clause-writes
+returns-in-Err-publish_by-clause-writes g c =
+    writes_last g.D.Device c.args.pager.now c.write_out.new.self (other c.args.live.now.half) c.in-Ok.ensures.spills c.next_super-next.result.half c.publish_by.new.pager.dev (ap (λ (s : Super). s.half) c.next_super-next.ensures.next) c.in-Err-publish_by.ensures.outside
 
 -- ---- it was published
 
@@ -178,6 +187,15 @@ returns-clause-saved g c =
     let last = c.publish_by.new.pager in
     let new = c.mark_saved.new.self in
     saved_new g.D.Device c.args.pager.now mid c.in-Ok.ensures.spills c.in-Ok.table c.in-Ok.ensures.written c.next_super-next.result (slots_mid g.D.Device one c.args.pager.now mid (g.met.D.Device.since_earlier mid.dev) c.args.live.now c.args.log.now c.requires.open c.requires.spare c.in-Ok.ensures.spills c.in-Ok.table c.in-Ok.ensures.written c.next_super-next.result c.args.count c.next_super-next.ensures.next) (ap (λ (s : Super). s.table) c.next_super-next.ensures.next) last new c.in-Ok-publish_by.ensures.pager c.mark_saved.ensures
+
+pub returns-clause-writes : goal.returns-clause-writes
+returns-clause-writes g c =
+    let mid = c.write_out.new.self in
+    let one : PartsAreOne = record { tables = c.tables_are_read_again.ensures; batches = c.batches_are_one.ensures } in
+    let last = c.publish_by.new.pager in
+    let new = c.mark_saved.new.self in
+    subst (λ (d : g.row.D.Denot). StaysBut (IsOfHalfOrSpare (other c.args.live.now.half) c.args.pager.now.spare) (g.D.Device.contents c.args.pager.now.dev) (g.D.Device.contents d)) (sym (device_new g.D.Device c.args.pager.now mid c.in-Ok.ensures.spills c.in-Ok.table c.in-Ok.ensures.written c.next_super-next.result (slots_mid g.D.Device one c.args.pager.now mid (g.met.D.Device.since_earlier mid.dev) c.args.live.now c.args.log.now c.requires.open c.requires.spare c.in-Ok.ensures.spills c.in-Ok.table c.in-Ok.ensures.written c.next_super-next.result c.args.count c.next_super-next.ensures.next) (ap (λ (s : Super). s.table) c.next_super-next.ensures.next) last new c.in-Ok-publish_by.ensures.pager c.mark_saved.ensures))
+    (writes_last g.D.Device c.args.pager.now mid (other c.args.live.now.half) c.in-Ok.ensures.spills c.next_super-next.result.half last.dev (ap (λ (s : Super). s.half) c.next_super-next.ensures.next) c.in-Ok-publish_by.ensures.outside)
 
 pub returns-clause-faults : goal.returns-clause-faults
 returns-clause-faults g c =

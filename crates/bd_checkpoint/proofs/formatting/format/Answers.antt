@@ -108,3 +108,6 @@ returns-clause-stays g c =
 
 pub returns-clause-faults : goal.returns-clause-faults
 returns-clause-faults g c = c.in-Ok-first_checkpoint.ensures.cause.kept ∙ ap g.D.Device.fault_count c.in-Ok-new_pager.ensures.new.device ∙ c.in-Ok.ensures.cause.kept
+
+pub returns-clause-room : goal.returns-clause-room
+returns-clause-room g c = c.in-Ok-first_checkpoint.ensures.saved.keeps.room ∙ c.in-Ok-new_pager.ensures.room

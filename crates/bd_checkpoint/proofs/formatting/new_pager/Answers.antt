@@ -45,3 +45,6 @@ returns-clause-new g c =
       spare = kept.spare ∙ f.spare;
       lent = c.append.ensures.lent ∙ f.lent;
     }
+
+pub returns-clause-room : goal.returns-clause-room
+returns-clause-room g c = c.append.ensures.stays.beside.room ∙ c.in-Ok-fresh.ensures.room

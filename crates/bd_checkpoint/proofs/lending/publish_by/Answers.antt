@@ -58,3 +58,11 @@ returns-clause-pager g c =
     let from = subst (λ (d : g.row.D.Denot). StaysBut (IsOfHalf half) (D.contents d) (D.contents c.publish_written-published.new.dev)) c.device.ensures.value c.publish_written-published.ensures.outside in
     let same = subst (λ (d : g.row.D.Denot). StaysBut (IsOfHalf half) (D.contents p.dev) (D.contents d)) (sym (ap (λ (q : Paged g.row.D.Denot). q.dev) c.take_back.ensures)) from in
     survives (IsOfHalf half) (super_before half) D p after (taken_back p after c.publish_written-published.new.dev c.requires.unlent c.take_back.ensures) same
+
+pub returns-clause-outside : goal.returns-clause-outside
+returns-clause-outside g c =
+    let D = g.D.Device in
+    let p = c.args.pager.now in
+    let half = c.args.s.now.half in
+    let from = subst (λ (d : g.row.D.Denot). StaysBut (IsOfHalf half) (D.contents d) (D.contents c.publish_written-published.new.dev)) c.device.ensures.value c.publish_written-published.ensures.outside in
+    subst (λ (d : g.row.D.Denot). StaysBut (IsOfHalf half) (D.contents p.dev) (D.contents d)) (sym (ap (λ (q : Paged g.row.D.Denot). q.dev) c.take_back.ensures)) from

@@ -9,7 +9,7 @@ use Rattle.bd_super.specs.Superblocks.{log_block}
 use Rattle.bd_super.specs.Live.{IsLive}
 use Rattle.bd_log.specs.Batches.{AreBatches}
 use Rattle.bd_pager.specs.Opened.{IsOpened}
-use Rattle.bd_pager.specs.Pagers.{Paged, is_known}
+use Rattle.bd_pager.specs.Pagers.{Paged, cache_room, is_known}
 use Rattle.bd_checkpoint.specs.Following.{HasTableOf, saved_by}
 use Rattle.bd_checkpoint.specs.Kept.{Saved, IsOpenOn}
 use Rattle.bd_checkpoint.specs.Resuming.{IsBadUnder}
@@ -124,3 +124,6 @@ returns-in-Err-read_log-clause-settles g c = λ some none.
 
 pub returns-clause-settled : goal.returns-clause-settled
 returns-clause-settled g c = settled_then g.D.Device c.args.dev c.in-Ok.start.1.dev c.read_log.new.pager.dev c.in-Ok.ensures.settled c.in-Ok-read_log.ensures.reads
+
+pub returns-clause-room : goal.returns-clause-room
+returns-clause-room g c = ap (λ (q : Paged g.row.D.Denot). cache_room q) c.in-Ok-read_log.ensures.pager ∙ c.in-Ok.ensures.room

@@ -11,5 +11,5 @@ pub returns : goal.returns
 returns g c =
     let same = c.numbers_are_shown.ensures.changed (g.D.Device.contents c.store-pager.result.now.dev) c.store-pager.result.now c.self.inside.tree.map.walk (version_of c.self.inside.live) c.self.inside.live.epoch c.self.inside.log.place (length (concat c.self.inside.log.waiting)) c.nodes_are_placed.ensures in
     subst (λ (e : EngineState g.row.D.Denot). c.changed.result ≡ changed_count (view_of g.D.Device e))
-    (ap (λ (p : Paged g.row.D.Denot). seen p c.self.inside.tree.recalled.found.keys c.self.inside.log c.self.inside.live c.self.inside.stop c.self.inside.tree.map.walk) c.store-pager.ensures ∙ c.self.view_is)
+    (ap (λ (p : Paged g.row.D.Denot). seen p c.self.inside.tree.recalled.found.keys c.self.inside.log c.self.inside.live c.self.inside.stop c.self.inside.tree.map.walk c.self.inside.flushes) c.store-pager.ensures ∙ c.self.view_is)
     (c.changed.ensures ∙ same)

@@ -12,7 +12,7 @@ pub returns : goal.returns
 returns g c =
     let D = g.D.Device in
     let i = c.self.inside in
-    let e = seen i.tree.map.store i.tree.recalled.found.keys i.log i.live i.stop i.tree.map.walk in
+    let e = seen i.tree.map.store i.tree.recalled.found.keys i.log i.live i.stop i.tree.map.walk i.flushes in
     let stays = subst (λ (p : Paged g.row.D.Denot). 0 < D.block_count p.dev → IfSome (D.contents p.dev) (left_now D p.dev)) c.store-pager.ensures c.blocks-2.ensures.may_stay in
     subst (λ (x : EngineState g.row.D.Denot). (block : ℕ) → x.stop ≡ None → is_bad D x.pager block → IsBadIn (D.contents x.pager.dev) block) c.self.view_is
     (λ block on bad. damage_shown D e c.self.invariant on (paged_at D _ _ c.store-pager.ensures c.nodes_are_placed.ensures) stays block bad)

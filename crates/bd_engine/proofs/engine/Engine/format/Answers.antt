@@ -14,7 +14,7 @@ use Rattle.bd_engine.proofs.engine.Engine.format.Goals as goal
 pub over-requires : goal.over-requires
 over-requires g c =
     let f = c.in-Ok.formatted in
-    fresh_standing g.D.Device f.pager f.log f.live c.args.slots c.in-Ok.ensures.live c.in-Ok.ensures.open c.in-Ok.ensures.place c.in-Ok.ensures.spare c.in-Ok.ensures.lent c.in-Ok.ensures.log c.in-Ok.ensures.told c.in-Ok.ensures.entries
+    fresh_standing g.D.Device f.pager f.log f.live c.args.slots c.in-Ok.ensures.live c.in-Ok.ensures.open c.in-Ok.ensures.place c.in-Ok.ensures.spare c.in-Ok.ensures.lent c.in-Ok.ensures.log c.in-Ok.ensures.told c.in-Ok.ensures.entries c.in-Ok.ensures.room
 
 pub returns-clause-view : goal.returns-clause-view
 returns-clause-view g c = λ told.

@@ -23,22 +23,22 @@ reclaim_step-made-requires-clause-at g c = λ known sound.
 pub invariant_of-self : goal.invariant_of-self
 invariant_of-self g c =
     let i = c.self.inside in
-    kept_standing g.D.Device (seen i.tree.map.store i.tree.recalled.found.keys i.log i.live i.stop i.tree.map.walk) c.reclaim_step-made.new.self.store i.tree.recalled.found.keys c.reclaim_step-made.new.self.walk (g.met.D.Device.since_earlier c.reclaim_step-made.new.self.store.dev) c.self.invariant c.reclaim_step-made.ensures.stays.beside
+    kept_standing g.D.Device (seen i.tree.map.store i.tree.recalled.found.keys i.log i.live i.stop i.tree.map.walk i.flushes) c.reclaim_step-made.new.self.store i.tree.recalled.found.keys c.reclaim_step-made.new.self.walk i.flushes (g.met.D.Device.since_earlier c.reclaim_step-made.new.self.store.dev) c.self.invariant c.reclaim_step-made.ensures.stays.beside
     (λ s. stays_sound g.D.Device i.tree.map.store c.reclaim_step-made.new.self.store c.reclaim_step-made.result (on_read g.D.Device i.tree.map.store c.reclaim_step-made.new.self.store c.reclaim_step-made.result c.reclaim_step-made.ensures.err) (reclaimed_sound _ _ _ _ c.reclaim_step-made.result (c.reclaim_step-made.ensures.reclaimed s.known s.sound)) (c.reclaim_step-made.ensures.stays.known s.known) s)
 
 pub returns-clause-only : goal.returns-clause-only
 returns-clause-only g c =
     let i = c.self.inside in
-    subst (λ (e : EngineState g.row.D.Denot). OnlyNodesOn g.D.Device e (seen c.reclaim_step-made.new.self.store i.tree.recalled.found.keys i.log i.live i.stop c.reclaim_step-made.new.self.walk)) c.self.view_is
-    (only_nodes_on g.D.Device (seen i.tree.map.store i.tree.recalled.found.keys i.log i.live i.stop i.tree.map.walk) c.reclaim_step-made.new.self.store i.tree.recalled.found.keys c.reclaim_step-made.new.self.walk c.self.invariant (paged_at g.D.Device _ _ c.store.ensures c.nodes_are_placed.ensures) (paged_at g.D.Device _ _ c.store-2.ensures c.nodes_are_placed-2.ensures) c.reclaim_step-made.ensures.stays.known c.reclaim_step-made.ensures.stays.beside)
+    subst (λ (e : EngineState g.row.D.Denot). OnlyNodesOn g.D.Device e (seen c.reclaim_step-made.new.self.store i.tree.recalled.found.keys i.log i.live i.stop c.reclaim_step-made.new.self.walk i.flushes)) c.self.view_is
+    (only_nodes_on g.D.Device (seen i.tree.map.store i.tree.recalled.found.keys i.log i.live i.stop i.tree.map.walk i.flushes) c.reclaim_step-made.new.self.store i.tree.recalled.found.keys c.reclaim_step-made.new.self.walk i.flushes c.self.invariant (paged_at g.D.Device _ _ c.store.ensures c.nodes_are_placed.ensures) (paged_at g.D.Device _ _ c.store-2.ensures c.nodes_are_placed-2.ensures) c.reclaim_step-made.ensures.stays.known c.reclaim_step-made.ensures.stays.beside)
 
 pub returns-clause-err : goal.returns-clause-err
 returns-clause-err g c =
     let i = c.self.inside in
-    subst (λ (e : EngineState g.row.D.Denot). OnErr c.reclaim_step-made.result (IsReadOn g.D.Device e (seen c.reclaim_step-made.new.self.store i.tree.recalled.found.keys i.log i.live i.stop c.reclaim_step-made.new.self.walk))) c.self.view_is
-    (err_read g.D.Device (seen i.tree.map.store i.tree.recalled.found.keys i.log i.live i.stop i.tree.map.walk) c.reclaim_step-made.new.self.store i.tree.recalled.found.keys c.reclaim_step-made.new.self.walk c.reclaim_step-made.result (on_any c.reclaim_step-made.result c.reclaim_step-made.ensures.walk) (on_read g.D.Device i.tree.map.store c.reclaim_step-made.new.self.store c.reclaim_step-made.result c.reclaim_step-made.ensures.err)
-    (λ s. sound_same g.D.Device (seen i.tree.map.store i.tree.recalled.found.keys i.log i.live i.stop i.tree.map.walk) (seen c.reclaim_step-made.new.self.store i.tree.recalled.found.keys i.log i.live i.stop c.reclaim_step-made.new.self.walk) refl
-    (stays_sound g.D.Device i.tree.map.store c.reclaim_step-made.new.self.store c.reclaim_step-made.result (on_read g.D.Device i.tree.map.store c.reclaim_step-made.new.self.store c.reclaim_step-made.result c.reclaim_step-made.ensures.err) (reclaimed_sound _ _ _ _ c.reclaim_step-made.result (c.reclaim_step-made.ensures.reclaimed s.known s.sound)) (c.reclaim_step-made.ensures.stays.known s.known) (sound_nodes g.D.Device (seen i.tree.map.store i.tree.recalled.found.keys i.log i.live i.stop i.tree.map.walk) s))
+    subst (λ (e : EngineState g.row.D.Denot). OnErr c.reclaim_step-made.result (IsReadOn g.D.Device e (seen c.reclaim_step-made.new.self.store i.tree.recalled.found.keys i.log i.live i.stop c.reclaim_step-made.new.self.walk i.flushes))) c.self.view_is
+    (err_read g.D.Device (seen i.tree.map.store i.tree.recalled.found.keys i.log i.live i.stop i.tree.map.walk i.flushes) c.reclaim_step-made.new.self.store i.tree.recalled.found.keys c.reclaim_step-made.new.self.walk c.reclaim_step-made.result (on_any c.reclaim_step-made.result c.reclaim_step-made.ensures.walk) (on_read g.D.Device i.tree.map.store c.reclaim_step-made.new.self.store c.reclaim_step-made.result c.reclaim_step-made.ensures.err)
+    (λ s. sound_same g.D.Device (seen i.tree.map.store i.tree.recalled.found.keys i.log i.live i.stop i.tree.map.walk i.flushes) (seen c.reclaim_step-made.new.self.store i.tree.recalled.found.keys i.log i.live i.stop c.reclaim_step-made.new.self.walk i.flushes) refl
+    (stays_sound g.D.Device i.tree.map.store c.reclaim_step-made.new.self.store c.reclaim_step-made.result (on_read g.D.Device i.tree.map.store c.reclaim_step-made.new.self.store c.reclaim_step-made.result c.reclaim_step-made.ensures.err) (reclaimed_sound _ _ _ _ c.reclaim_step-made.result (c.reclaim_step-made.ensures.reclaimed s.known s.sound)) (c.reclaim_step-made.ensures.stays.known s.known) (sound_nodes g.D.Device (seen i.tree.map.store i.tree.recalled.found.keys i.log i.live i.stop i.tree.map.walk i.flushes) s))
     (c.reclaim_step-made.ensures.same s.known s.sound) s))
 
 pub returns-clause-cause : goal.returns-clause-cause
@@ -64,9 +64,9 @@ returns-clause-less g c =
 pub returns-clause-sound : goal.returns-clause-sound
 returns-clause-sound g c =
     let i = c.self.inside in
-    let old : EngineState g.row.D.Denot = seen i.tree.map.store i.tree.recalled.found.keys i.log i.live i.stop i.tree.map.walk in
-    subst (λ (e : EngineState g.row.D.Denot). IsSoundOn g.D.Device e → IsSoundOn g.D.Device (seen c.reclaim_step-made.new.self.store i.tree.recalled.found.keys i.log i.live i.stop c.reclaim_step-made.new.self.walk)) c.self.view_is
-    (λ s. sound_same g.D.Device old (seen c.reclaim_step-made.new.self.store i.tree.recalled.found.keys i.log i.live i.stop c.reclaim_step-made.new.self.walk) refl
+    let old : EngineState g.row.D.Denot = seen i.tree.map.store i.tree.recalled.found.keys i.log i.live i.stop i.tree.map.walk i.flushes in
+    subst (λ (e : EngineState g.row.D.Denot). IsSoundOn g.D.Device e → IsSoundOn g.D.Device (seen c.reclaim_step-made.new.self.store i.tree.recalled.found.keys i.log i.live i.stop c.reclaim_step-made.new.self.walk i.flushes)) c.self.view_is
+    (λ s. sound_same g.D.Device old (seen c.reclaim_step-made.new.self.store i.tree.recalled.found.keys i.log i.live i.stop c.reclaim_step-made.new.self.walk i.flushes) refl
     (stays_sound g.D.Device i.tree.map.store c.reclaim_step-made.new.self.store c.reclaim_step-made.result (on_read g.D.Device i.tree.map.store c.reclaim_step-made.new.self.store c.reclaim_step-made.result c.reclaim_step-made.ensures.err) (reclaimed_sound _ _ _ _ c.reclaim_step-made.result (c.reclaim_step-made.ensures.reclaimed s.known s.sound)) (c.reclaim_step-made.ensures.stays.known s.known) (sound_nodes g.D.Device old s))
     (c.reclaim_step-made.ensures.same s.known s.sound) s)
 

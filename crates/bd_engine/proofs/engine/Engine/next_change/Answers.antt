@@ -1,5 +1,5 @@
 -- What the tree finds the engine finds.
-use Rattle.std.proofs.Common.{subst}
+use Rattle.std.proofs.Common.{refl, subst}
 use Rattle.std.specs.Prelude.{IfOk, MatchOption}
 use Rattle.bd_pager.specs.Calling.{read_keeps}
 use Rattle.bd_pager.specs.Pagers.{nodes_of, table_of}
@@ -12,7 +12,7 @@ use Rattle.bd_engine.proofs.engine.Engine.next_change.Goals as goal
 pub invariant_of-self : goal.invariant_of-self
 invariant_of-self g c =
     let i = c.self.inside in
-    kept_standing g.D.Device (seen i.tree.map.store i.tree.recalled.found.keys i.log i.live i.stop i.tree.map.walk) c.reclaim_next.new.self.store i.tree.recalled.found.keys c.reclaim_next.new.self.walk (g.met.D.Device.since_earlier c.reclaim_next.new.self.store.dev) c.self.invariant
+    kept_standing g.D.Device (seen i.tree.map.store i.tree.recalled.found.keys i.log i.live i.stop i.tree.map.walk i.flushes) c.reclaim_next.new.self.store i.tree.recalled.found.keys c.reclaim_next.new.self.walk i.flushes (g.met.D.Device.since_earlier c.reclaim_next.new.self.store.dev) c.self.invariant
     (read_keeps g.D.Device i.tree.map.store c.reclaim_next.new.self.store c.reclaim_next.ensures.left.read) (read_sound g.D.Device i.tree.map.store c.reclaim_next.new.self.store c.reclaim_next.ensures.left.read)
 
 pub returns-clause-first : goal.returns-clause-first
@@ -29,6 +29,6 @@ pub returns-clause-read : goal.returns-clause-read
 returns-clause-read g c =
     let i = c.self.inside in
     let read = c.reclaim_next.ensures.left.read in
-    subst (λ (e : EngineState g.row.D.Denot). IsReadOn g.D.Device e (seen c.reclaim_next.new.self.store i.tree.recalled.found.keys i.log i.live i.stop c.reclaim_next.new.self.walk)) c.self.view_is
-    (read_on g.D.Device (seen i.tree.map.store i.tree.recalled.found.keys i.log i.live i.stop i.tree.map.walk) c.reclaim_next.new.self.store i.tree.recalled.found.keys c.reclaim_next.new.self.walk c.reclaim_next.ensures.walk read
-    (read_keeps_sound g.D.Device (seen i.tree.map.store i.tree.recalled.found.keys i.log i.live i.stop i.tree.map.walk) c.reclaim_next.new.self.store c.reclaim_next.new.self.walk read))
+    subst (λ (e : EngineState g.row.D.Denot). IsReadOn g.D.Device e (seen c.reclaim_next.new.self.store i.tree.recalled.found.keys i.log i.live i.stop c.reclaim_next.new.self.walk i.flushes)) c.self.view_is
+    (read_on g.D.Device (seen i.tree.map.store i.tree.recalled.found.keys i.log i.live i.stop i.tree.map.walk i.flushes) c.reclaim_next.new.self.store i.tree.recalled.found.keys c.reclaim_next.new.self.walk i.flushes c.reclaim_next.ensures.walk refl read
+    (read_keeps_sound g.D.Device (seen i.tree.map.store i.tree.recalled.found.keys i.log i.live i.stop i.tree.map.walk i.flushes) c.reclaim_next.new.self.store c.reclaim_next.new.self.walk i.flushes read))

@@ -21,10 +21,13 @@ pub over-requires : goal.over-requires
 over-requires g c =
     let r = c.in-Ok.recovered in
     opened_standing g.D.Device (g.D.Device.contents c.args.dev) r.pager r.log r.live c.in-Ok.ensures.opened c.in-Ok.ensures.open c.in-Ok.ensures.idle
-    c.in-Ok.ensures.reads.kept c.in-Ok.ensures.stored (λ told. c.in-Ok.ensures.known (subst (λ (o : Option Image). IsSome o) c.in-Ok.ensures.reads.kept told))
+    c.in-Ok.ensures.reads.kept c.in-Ok.ensures.stored (λ told. c.in-Ok.ensures.known (subst (λ (o : Option Image). IsSome o) c.in-Ok.ensures.reads.kept told)) c.in-Ok.ensures.room
 
 pub returns-clause-known : goal.returns-clause-known
 returns-clause-known g c = λ told. subst (λ (e : EngineState g.row.D.Denot). is_known g.D.Device e.pager) (sym c.over.ensures.started) (c.in-Ok.ensures.known told)
+
+pub returns-clause-flushes : goal.returns-clause-flushes
+returns-clause-flushes g c = ap (λ (e : EngineState g.row.D.Denot). e.flushes) c.over.ensures.started
 
 pub returns-clause-first : goal.returns-clause-first
 returns-clause-first g c = λ tree count.

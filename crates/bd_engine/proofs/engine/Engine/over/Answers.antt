@@ -8,5 +8,5 @@ use Rattle.bd_engine.proofs.engine.Engine.over.Goals as goal
 
 pub invariant_of-result : goal.invariant_of-result
 invariant_of-result g c =
-    subst (λ (p : Paged g.row.D.Denot). IsStanding g.D.Device (seen p (findings c.new.result) c.args.log c.args.live None c.over.result.walk)) (sym c.over.ensures.store)
-    (subst (λ (w : Walk). IsStanding g.D.Device (seen c.args.pager (findings c.new.result) c.args.log c.args.live None w)) (sym c.over.ensures.walk) (c.requires (findings c.new.result)))
+    subst (λ (p : Paged g.row.D.Denot). IsStanding g.D.Device (seen p (findings c.new.result) c.args.log c.args.live None c.over.result.walk 0)) (sym c.over.ensures.store)
+    (subst (λ (w : Walk). IsStanding g.D.Device (seen c.args.pager (findings c.new.result) c.args.log c.args.live None w 0)) (sym c.over.ensures.walk) (c.requires (findings c.new.result)))

@@ -20,15 +20,15 @@ invariant_of-self g c =
     let i = c.self.inside in
     let lent = c.store_mut.ensures.value in
     let q = c.store_mut.result.now in
-    let e = seen q i.tree.recalled.found.keys i.log i.live i.stop i.tree.map.walk in
-    let same : e ≡ c.args.self.now = ap (λ (p : Paged g.row.D.Denot). seen p i.tree.recalled.found.keys i.log i.live i.stop i.tree.map.walk) lent ∙ c.self.view_is in
-    let standing : IsStanding D e = subst (λ (p : Paged g.row.D.Denot). IsStanding D (seen p i.tree.recalled.found.keys i.log i.live i.stop i.tree.map.walk)) (sym lent) c.self.invariant in
+    let e = seen q i.tree.recalled.found.keys i.log i.live i.stop i.tree.map.walk i.flushes in
+    let same : e ≡ c.args.self.now = ap (λ (p : Paged g.row.D.Denot). seen p i.tree.recalled.found.keys i.log i.live i.stop i.tree.map.walk i.flushes) lent ∙ c.self.view_is in
+    let standing : IsStanding D e = subst (λ (p : Paged g.row.D.Denot). IsStanding D (seen p i.tree.recalled.found.keys i.log i.live i.stop i.tree.map.walk i.flushes)) (sym lent) c.self.invariant in
     let p = c.sync_by-synced.new.pager in
     let r = c.sync_by-synced.result in
     let k = c.sync_by-synced.ensures in
     let on : i.stop ≡ None = ap (λ (x : EngineState g.row.D.Denot). x.stop) same ∙ c.requires.going in
     let stop : c.stop_by-self-inside.result ≡ stop_by (D.call_count p.dev) r = c.stop_by-self-inside.ensures ∙ (λ j. stop_by (D.call_count (c.store.ensures j).dev) r) in
-    subst (λ (o : Option ℕ). IsStanding D (seen p i.tree.recalled.found.keys c.sync_by-synced.new.log i.live o i.tree.map.walk)) (sym stop)
+    subst (λ (o : Option ℕ). IsStanding D (seen p i.tree.recalled.found.keys c.sync_by-synced.new.log i.live o i.tree.map.walk i.flushes)) (sym stop)
     (synced_standing D e p c.sync_by-synced.new.log r k.pager standing on k.stays k.ok k.err (on_ok_weaker r (λ known. known i.live (saved_of q) (standing.going on)) k.open))
 
 pub returns-clause-view : goal.returns-clause-view
@@ -37,13 +37,13 @@ returns-clause-view g c =
     let i = c.self.inside in
     let lent = c.store_mut.ensures.value in
     let q = c.store_mut.result.now in
-    let e = seen q i.tree.recalled.found.keys i.log i.live i.stop i.tree.map.walk in
-    let same : e ≡ c.args.self.now = ap (λ (p : Paged g.row.D.Denot). seen p i.tree.recalled.found.keys i.log i.live i.stop i.tree.map.walk) lent ∙ c.self.view_is in
-    let standing : IsStanding D e = subst (λ (p : Paged g.row.D.Denot). IsStanding D (seen p i.tree.recalled.found.keys i.log i.live i.stop i.tree.map.walk)) (sym lent) c.self.invariant in
+    let e = seen q i.tree.recalled.found.keys i.log i.live i.stop i.tree.map.walk i.flushes in
+    let same : e ≡ c.args.self.now = ap (λ (p : Paged g.row.D.Denot). seen p i.tree.recalled.found.keys i.log i.live i.stop i.tree.map.walk i.flushes) lent ∙ c.self.view_is in
+    let standing : IsStanding D e = subst (λ (p : Paged g.row.D.Denot). IsStanding D (seen p i.tree.recalled.found.keys i.log i.live i.stop i.tree.map.walk i.flushes)) (sym lent) c.self.invariant in
     let p = c.sync_by-synced.new.pager in
     let r = c.sync_by-synced.result in
     let k = c.sync_by-synced.ensures in
-    subst (λ (x : EngineState g.row.D.Denot). OnOk r (view_of D (seen p i.tree.recalled.found.keys c.sync_by-synced.new.log i.live c.stop_by-self-inside.result i.tree.map.walk) ≡ synced (view_of D x))) same
+    subst (λ (x : EngineState g.row.D.Denot). OnOk r (view_of D (seen p i.tree.recalled.found.keys c.sync_by-synced.new.log i.live c.stop_by-self-inside.result i.tree.map.walk i.flushes) ≡ synced (view_of D x))) same
     (synced_view D e p c.sync_by-synced.new.log c.logs_have_the_same_numbers.ensures.place r c.stop_by-self-inside.result k.pager standing k.ok)
 
 pub returns-clause-time : goal.returns-clause-time
@@ -52,9 +52,9 @@ returns-clause-time g c =
     let i = c.self.inside in
     let lent = c.store_mut.ensures.value in
     let q = c.store_mut.result.now in
-    let e = seen q i.tree.recalled.found.keys i.log i.live i.stop i.tree.map.walk in
-    let same : e ≡ c.args.self.now = ap (λ (p : Paged g.row.D.Denot). seen p i.tree.recalled.found.keys i.log i.live i.stop i.tree.map.walk) lent ∙ c.self.view_is in
-    let standing : IsStanding D e = subst (λ (p : Paged g.row.D.Denot). IsStanding D (seen p i.tree.recalled.found.keys i.log i.live i.stop i.tree.map.walk)) (sym lent) c.self.invariant in
+    let e = seen q i.tree.recalled.found.keys i.log i.live i.stop i.tree.map.walk i.flushes in
+    let same : e ≡ c.args.self.now = ap (λ (p : Paged g.row.D.Denot). seen p i.tree.recalled.found.keys i.log i.live i.stop i.tree.map.walk i.flushes) lent ∙ c.self.view_is in
+    let standing : IsStanding D e = subst (λ (p : Paged g.row.D.Denot). IsStanding D (seen p i.tree.recalled.found.keys i.log i.live i.stop i.tree.map.walk i.flushes)) (sym lent) c.self.invariant in
     let p = c.sync_by-synced.new.pager in
     let on : i.stop ≡ None = ap (λ (x : EngineState g.row.D.Denot). x.stop) same ∙ c.requires.going in
     subst (λ (x : EngineState g.row.D.Denot). Goes D x.pager.dev p.dev (IsWithAllOrNone x.live x.log (left_now D x.pager.dev))) same
@@ -66,9 +66,9 @@ returns-clause-kept g c =
     let i = c.self.inside in
     let lent = c.store_mut.ensures.value in
     let q = c.store_mut.result.now in
-    let e = seen q i.tree.recalled.found.keys i.log i.live i.stop i.tree.map.walk in
-    let same : e ≡ c.args.self.now = ap (λ (p : Paged g.row.D.Denot). seen p i.tree.recalled.found.keys i.log i.live i.stop i.tree.map.walk) lent ∙ c.self.view_is in
-    let standing : IsStanding D e = subst (λ (p : Paged g.row.D.Denot). IsStanding D (seen p i.tree.recalled.found.keys i.log i.live i.stop i.tree.map.walk)) (sym lent) c.self.invariant in
+    let e = seen q i.tree.recalled.found.keys i.log i.live i.stop i.tree.map.walk i.flushes in
+    let same : e ≡ c.args.self.now = ap (λ (p : Paged g.row.D.Denot). seen p i.tree.recalled.found.keys i.log i.live i.stop i.tree.map.walk i.flushes) lent ∙ c.self.view_is in
+    let standing : IsStanding D e = subst (λ (p : Paged g.row.D.Denot). IsStanding D (seen p i.tree.recalled.found.keys i.log i.live i.stop i.tree.map.walk i.flushes)) (sym lent) c.self.invariant in
     let p = c.sync_by-synced.new.pager in
     let r = c.sync_by-synced.result in
     let on : i.stop ≡ None = ap (λ (x : EngineState g.row.D.Denot). x.stop) same ∙ c.requires.going in
@@ -80,8 +80,8 @@ returns-clause-idle g c =
     let i = c.self.inside in
     let lent = c.store_mut.ensures.value in
     let q = c.store_mut.result.now in
-    let e = seen q i.tree.recalled.found.keys i.log i.live i.stop i.tree.map.walk in
-    let same : e ≡ c.args.self.now = ap (λ (p : Paged g.row.D.Denot). seen p i.tree.recalled.found.keys i.log i.live i.stop i.tree.map.walk) lent ∙ c.self.view_is in
+    let e = seen q i.tree.recalled.found.keys i.log i.live i.stop i.tree.map.walk i.flushes in
+    let same : e ≡ c.args.self.now = ap (λ (p : Paged g.row.D.Denot). seen p i.tree.recalled.found.keys i.log i.live i.stop i.tree.map.walk i.flushes) lent ∙ c.self.view_is in
     let p = c.sync_by-synced.new.pager in
     subst (λ (x : EngineState g.row.D.Denot). length (concat x.log.waiting) ≡ 0 → p.dev ≡ x.pager.dev) same
     (λ none. c.sync_by-synced.ensures.idle (none_wait i.log.waiting c.self.invariant.records none))
@@ -97,7 +97,7 @@ returns-clause-nodes g c =
     let D = g.D.Device in
     let i = c.self.inside in
     let lent = c.store_mut.ensures.value in
-    let e : EngineState g.row.D.Denot = seen c.store_mut.result.now i.tree.recalled.found.keys i.log i.live i.stop i.tree.map.walk in
-    let same : e ≡ c.args.self.now = ap (λ (p : Paged g.row.D.Denot). seen p i.tree.recalled.found.keys i.log i.live i.stop i.tree.map.walk) lent ∙ c.self.view_is in
-    let new : EngineState g.row.D.Denot = seen c.sync_by-synced.new.pager i.tree.recalled.found.keys c.sync_by-synced.new.log i.live c.stop_by-self-inside.result i.tree.map.walk in
-    subst (λ (x : EngineState g.row.D.Denot). KeepsNodesOn D x new) same (keeps_nodes_on D e new c.sync_by-synced.ensures.pager refl refl refl)
+    let e : EngineState g.row.D.Denot = seen c.store_mut.result.now i.tree.recalled.found.keys i.log i.live i.stop i.tree.map.walk i.flushes in
+    let same : e ≡ c.args.self.now = ap (λ (p : Paged g.row.D.Denot). seen p i.tree.recalled.found.keys i.log i.live i.stop i.tree.map.walk i.flushes) lent ∙ c.self.view_is in
+    let new : EngineState g.row.D.Denot = seen c.sync_by-synced.new.pager i.tree.recalled.found.keys c.sync_by-synced.new.log i.live c.stop_by-self-inside.result i.tree.map.walk i.flushes in
+    subst (λ (x : EngineState g.row.D.Denot). KeepsNodesOn D x new) same (keeps_nodes_on D e new c.sync_by-synced.ensures.pager refl refl refl refl)

@@ -7,6 +7,7 @@ use Rattle.bd_volume.specs.declared.volume.Volume.{Volume}
 use Rattle.bd_volume.specs.Volume.{view_of}
 use Rattle.bd_volume.proofs.Called.{read_fails}
 use Rattle.bd_volume.proofs.Faulted.{read_halts}
+use Rattle.bd_volume.proofs.Writes.{writes_read}
 use Rattle.bd_volume.proofs.volume.Volume.answer.Goals as goal
 
 pub returns-in_err-answered-clause-fails : goal.returns-in_err-answered-clause-fails
@@ -15,11 +16,11 @@ returns-in_err-answered-clause-fails g c = λ s.
     let h = c.in_err-answered.ensures in
     let a : Volume g.row.D.Denot = c.args.self.now in
     let b : Volume g.row.D.Denot = record a { engine = c.answer-answered.new.self } in
-    rw (p.1, p.2) (read_halts g.D.Device _ _ b a.count c.args.command.now (view_of g.D.Device a) (view_of g.D.Device b) c.in_err-answered.field-0.0 (c.sound_nodes_are_undamaged.ensures (h.read.sound s)) h.cause.failed)
+    rw (p.1, p.2) (read_halts g.D.Device _ _ _ b a.count c.args.command.now (view_of g.D.Device a) (view_of g.D.Device b) c.in_err-answered.field-0.0 (c.sound_nodes_are_undamaged.ensures (h.read.sound s)) h.cause.failed)
 
 pub returns-in_err-answered-clause-ends : goal.returns-in_err-answered-clause-ends
 returns-in_err-answered-clause-ends g c =
     let p = err_from_is_err_and c.from_residual.result c.from_residual.ensures.1 in
     let h = c.in_err-answered.ensures in
     let a : Volume g.row.D.Denot = c.args.self.now in
-    rw (p.1, p.2) (read_fails g.D.Device a (record a { engine = c.answer-answered.new.self }) NeverWorn c.in_err-answered.field-0.0 c.requires.going (ap (λ (e : EngineState g.row.D.Denot). e.stop) h.read.rest) h.read.read.device h.cause)
+    rw (p.1, p.2) (read_fails g.D.Device a (record a { engine = c.answer-answered.new.self }) NeverWorn c.in_err-answered.field-0.0 c.requires.going (ap (λ (e : EngineState g.row.D.Denot). e.stop) h.read.rest) h.read.read.device h.cause (writes_read g.D.Device a.engine c.answer-answered.new.self h.read))

@@ -1,4 +1,5 @@
 -- The messages of a command of the log, after its flush steps.
+use Rattle.std.proofs.Common.{arith}
 use Rattle.std.proofs.lemmas.Result.{err_from_is_err_and}
 use Rattle.bd_message.specs.KeyMaps.{NeverWorn}
 use Rattle.bd_dirs.specs.Sendings.{Batch}
@@ -17,7 +18,7 @@ returns-in_err-append-clause-fails g c =
     let h = c.in_err-append.ensures in
     let a : Volume g.row.D.Denot = c.flush_again.new.self in
     let b : Volume g.row.D.Denot = record a { engine = c.append.new.self } in
-    rw (p.1, p.2) (append_fails g.D.Device _ _ c.args.self.now b c.args.command.now c.in_err-append.field-0.0 (λ s. h.sound (c.in_ok-flush_again.ensures.sound s))
+    rw (p.1, p.2) (append_fails g.D.Device _ _ _ c.args.self.now b c.args.command.now c.in_err-append.field-0.0 (λ s. h.sound (c.in_ok-flush_again.ensures.sound s))
     (good_both g.D.Device c.args.self.now.engine a.engine b.engine c.in_ok-flush_again.ensures.writes.early.good (good_kept g.D.Device a.engine b.engine h.only.keeps)) h.cause.failed)
 
 pub returns-in_err-append-clause-writes : goal.returns-in_err-append-clause-writes
@@ -59,3 +60,9 @@ returns-clause-cause g c =
     let a : Volume g.row.D.Denot = c.flush_again.new.self in
     let b : Volume g.row.D.Denot = record a { engine = c.append.new.self } in
     cause_then g.D.Device _ c.args.self.now a b c.in_ok-flush_again.ensures.cause.kept (cause_ok g.D.Device a b _ c.in_ok-append.ensures.cause.kept)
+
+pub returns-in_err-append-clause-few : goal.returns-in_err-append-clause-few
+returns-in_err-append-clause-few g c = omega (arith, c.in_ok-flush_again.ensures.few, c.in_err-append.ensures.flushes)
+
+pub returns-clause-few : goal.returns-clause-few
+returns-clause-few g c = omega (arith, c.in_ok-flush_again.ensures.few, c.in_ok-append.ensures.flushes)

@@ -12,7 +12,7 @@ use Rattle.bd_volume.specs.Volume.{view_of}
 use Rattle.bd_volume.proofs.Called.{went_on, goes_then, ends_then, ends_err, ends_well}
 use Rattle.bd_volume.proofs.Keeping.{keeps_read, keeps_then}
 use Rattle.bd_volume.proofs.Read.{read_same}
-use Rattle.bd_volume.proofs.Reclaims.{none_left, saved_once}
+use Rattle.bd_volume.proofs.Reclaims.{none_left, saved_once, edge_shows}
 use Rattle.bd_volume.proofs.volume.Volume.change_once.Goals as goal
 
 -- ---- a write failed
@@ -25,7 +25,7 @@ returns-in_err-spill-clause-fails g c = λ s.
 pub returns-in_err-spill-clause-shows : goal.returns-in_err-spill-clause-shows
 returns-in_err-spill-clause-shows g c =
     let p = err_from_is_err_and c.from_residual.result c.from_residual.ensures.1 in
-    rw (p.1, p.2) (subst (λ (fault : Fault). ShowsEdge fault (view_of g.D.Device c.spill.new.self)) (sym c.in_err-spill.ensures.kind) tt)
+    rw (p.1, p.2) (subst (λ (fault : Fault). ShowsEdge g.D.Device fault c.spill.new.self.engine) (sym c.in_err-spill.ensures.kind) tt)
 
 -- ---- looking fails, or finds none
 
@@ -77,6 +77,11 @@ returns-in_default-clause-ends g c =
     ends_well g.D.Device c.args.self.now c.look.new.self _ goes
 
 -- ---- a checkpoint for it
+
+pub returns-in_err-save_for_edge-clause-shows : goal.returns-in_err-save_for_edge-clause-shows
+returns-in_err-save_for_edge-clause-shows g c =
+    let p = err_from_is_err_and c.from_residual-in_err-save_for_edge.result c.from_residual-in_err-save_for_edge.ensures.1 in
+    rw (p.1, p.2) (edge_shows g.D.Device c.save_for_edge.new.self.engine c.in_err-save_for_edge.field-0.0 c.in_err-save_for_edge.ensures.fails)
 
 pub returns-in_err-save_for_edge-clause-unmoved : goal.returns-in_err-save_for_edge-clause-unmoved
 returns-in_err-save_for_edge-clause-unmoved g c = λ s.

@@ -7,6 +7,7 @@ use Rattle.bd_volume.specs.Wears.{Wears}
 use Rattle.bd_volume.specs.Steps.{IsCommandFault, IsOfAccepted}
 use Rattle.bd_volume.proofs.Executed.{at_err, damage_named, keys_stay}
 use Rattle.bd_volume.proofs.Stepped.{not_stepped}
+use Rattle.bd_volume.proofs.Writes.{writes_none}
 use Rattle.bd_volume.proofs.volume.Volume.do_command.Goals as goal
 
 pub returns-in-Some-clause-begun : goal.returns-in-Some-clause-begun
@@ -40,3 +41,9 @@ returns-in-Some-clause-keys g c = λ s k. refl
 
 pub returns-in-None-clause-keys : goal.returns-in-None-clause-keys
 returns-in-None-clause-keys g c = keys_stay g.D.Device c.execute-done.result c.args.self.now c.execute-done.new.self c.args.command.now c.execute-done.ensures.begun
+
+pub returns-in-Some-clause-writes : goal.returns-in-Some-clause-writes
+returns-in-Some-clause-writes g c = writes_none g.D.Device c.args.self.now.engine
+
+pub returns-in-None-clause-writes : goal.returns-in-None-clause-writes
+returns-in-None-clause-writes g c = c.execute-done.ensures.ends.writes

@@ -1,6 +1,6 @@
 -- Planning a command only reads, and what is planned is then carried out.
-use Rattle.std.proofs.Common.{◌≡◌, ◌+◌, ℕ, false, sym, subst}
-use Rattle.std.specs.Prelude.{IfOk}
+use Rattle.std.proofs.Common.{◌≡◌, ◌+◌, ℕ, false, sym, ap, subst}
+use Rattle.std.specs.Prelude.{IfOk, IfErr}
 use Rattle.std.proofs.lemmas.Result.{err_from_is_err_and}
 use Rattle.bd_device.proofs.Images.{OnErr-always}
 use Rattle.bd_command.specs.Command.{writes, accepted}
@@ -9,10 +9,12 @@ use Rattle.bd_represent.specs.Represents.{Represents}
 use Rattle.bd_dirs.specs.Plans.{IsPlan}
 use Rattle.bd_view.specs.Views.{View}
 use Rattle.bd_view.specs.Moves.{IsAccepted}
-use Rattle.bd_engine.specs.Engines.{keys_of}
+use Rattle.bd_engine.specs.Engines.{EngineState, keys_of}
 use Rattle.bd_volume.specs.declared.volume.Volume.{Volume}
+use Rattle.bd_volume.specs.Steps.{ShowsFault}
 use Rattle.bd_volume.specs.Volume.{view_of}
 use Rattle.bd_volume.proofs.Executed.{reads_stand, takes_stand, takes_reply, takes_time, fails_stand, executes_for, refused_for, accepting_for, begun_refused, begun_accepted}
+use Rattle.bd_volume.proofs.Faulted.{shows_same}
 use Rattle.bd_volume.proofs.Keeping.{keeps_read}
 use Rattle.bd_volume.proofs.Safe.{reads_by}
 use Rattle.bd_volume.proofs.Stepped.{not_stepped}
@@ -111,3 +113,9 @@ returns-clause-accepting g c =
     let a : Volume g.row.D.Denot = c.args.self.now in
     accepting_for g.D.Device c.carry_out.result a c.args.command.now
     (λ t n s. begun_accepted c.carry_out.result (keys_of g.D.Device a.engine.pager) t c.args.command.now c.in_ok-plan.plan c.carry_out.ensures.accepting (c.in_ok-plan.ensures.plan t n s))
+
+pub returns-clause-shows : goal.returns-clause-shows
+returns-clause-shows g c =
+    let read = c.in_ok-plan.ensures.read in
+    let shown = subst (λ (n : ℕ). IfErr c.carry_out.result (λ fault. ShowsFault g.D.Device fault n c.plan.new.self.engine.flushes c.args.command.now c.carry_out.new.self.engine)) c.in_ok-plan.ensures.count_stays c.carry_out.ensures.shows in
+    shows_same g.D.Device c.carry_out.result c.args.self.now.count c.plan.new.self.engine.flushes c.args.self.now.engine.flushes c.args.command.now c.carry_out.new.self.engine (ap (λ (e : EngineState g.row.D.Denot). e.flushes) read.rest) shown

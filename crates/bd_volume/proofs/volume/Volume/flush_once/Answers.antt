@@ -1,15 +1,18 @@
 -- Nodes are written early, a flush step is one of the command's, and a fault has its cause.
-use Rattle.std.proofs.Common.{◌≡◌, true, ap, subst, ◌∙◌}
+use Rattle.std.proofs.Common.{◌≡◌, ℕ, true, ap, sym, subst, ◌∙◌}
 use Rattle.std.specs.Prelude.{Ok}
 use Rattle.std.proofs.lemmas.Result.{err_from_is_err_and}
 use Rattle.bd_view.specs.Views.{View}
 use Rattle.bd_view.specs.Moves.{FlushesAgain}
-use Rattle.bd_engine.specs.Engines.{IsWornIn}
+use Rattle.bd_engine.specs.Engines.{flushes_after, IsWornIn}
 use Rattle.bd_engine.proofs.Left.{step_waits}
 use Rattle.bd_volume.specs.declared.volume.Volume.{Volume}
+use Rattle.bd_volume.specs.declared.fault.Fault.{Fault}
+use Rattle.bd_volume.specs.Steps.{ShowsStep}
 use Rattle.bd_volume.specs.Volume.{view_of}
 use Rattle.bd_volume.proofs.Bad.{good_early, good_kept}
 use Rattle.bd_volume.proofs.Early.{early_keys, early_call, early_goes, goes_ok, goes_both, goes_nodes}
+use Rattle.bd_volume.proofs.Faulted.{flush_shows}
 use Rattle.bd_volume.proofs.Replayed.{cause_device, cause_map, cause_ok, cause_then, device_flush_fails, early_flush_fails, flush_again_fails}
 use Rattle.bd_volume.proofs.volume.Volume.flush_once.Goals as goal
 
@@ -45,7 +48,7 @@ returns-in_err-flush-clause-fails g c =
     let a : Volume g.row.D.Denot = c.spill.new.self in
     let b : Volume g.row.D.Denot = record a { engine = c.flush.new.self } in
     rw (p.1, p.2) (early_flush_fails g.D.Device _ c.args.command.now c.args.self.now a (good_early g.D.Device c.args.self.now.engine a.engine k.early) k.sound k.view
-    (flush_again_fails g.D.Device _ _ a b c.args.command.now c.in_err-flush.field-0.0 (step_waits _ _ _ (λ e. cc) h.enough) h.sound (good_kept g.D.Device a.engine b.engine h.only.keeps) h.cause.failed))
+    (flush_again_fails g.D.Device _ _ _ a b c.args.command.now c.in_err-flush.field-0.0 (step_waits _ _ _ (λ e. cc) h.enough) h.sound (good_kept g.D.Device a.engine b.engine h.only.keeps) h.cause.failed))
 
 pub returns-in_err-flush-clause-rest : goal.returns-in_err-flush-clause-rest
 returns-in_err-flush-clause-rest g c = λ s off. (c.in_err-flush.ensures.rest (λ e. cc)).view ∙ c.in_ok-spill.ensures.view s
@@ -103,3 +106,31 @@ returns-clause-cause g c =
     let a : Volume g.row.D.Denot = c.spill.new.self in
     let b : Volume g.row.D.Denot = record a { engine = c.flush.new.self } in
     cause_then g.D.Device _ c.args.self.now a b c.in_ok-spill.ensures.ends.cause.kept (cause_ok g.D.Device a b _ c.in_ok-flush.ensures.cause.kept)
+
+-- ---- what is told where the nodes may not be known
+
+pub returns-in_err-spill-clause-shows : goal.returns-in_err-spill-clause-shows
+returns-in_err-spill-clause-shows g c =
+    let p = err_from_is_err_and c.from_residual.result c.from_residual.ensures.1 in
+    rw (p.1, p.2) (subst (λ (fault : Fault). ShowsStep g.D.Device fault c.args.command.now c.spill.new.self.engine) (sym c.in_err-spill.ensures.kind) tt)
+
+pub returns-in_err-spill-clause-counted : goal.returns-in_err-spill-clause-counted
+returns-in_err-spill-clause-counted g c =
+    let p = err_from_is_err_and c.from_residual.result c.from_residual.ensures.1 in
+    rw p.1 c.in_err-spill.ensures.flushes
+
+pub returns-in_err-flush-clause-shows : goal.returns-in_err-flush-clause-shows
+returns-in_err-flush-clause-shows g c =
+    let p = err_from_is_err_and c.from_residual-in_err-flush.result c.from_residual-in_err-flush.ensures.1 in
+    let h = c.in_err-flush.ensures in
+    let a : Volume g.row.D.Denot = c.spill.new.self in
+    let b : Volume g.row.D.Denot = record a { engine = c.flush.new.self } in
+    rw (p.1, p.2) (flush_shows g.D.Device _ _ _ a b c.args.command.now c.in_err-flush.field-0.0 (step_waits _ _ _ (λ e. cc) h.enough) (h.rest (λ e. cc)).read h.cause.failed)
+
+pub returns-in_err-flush-clause-counted : goal.returns-in_err-flush-clause-counted
+returns-in_err-flush-clause-counted g c =
+    let p = err_from_is_err_and c.from_residual-in_err-flush.result c.from_residual-in_err-flush.ensures.1 in
+    rw p.1 (c.in_err-flush.ensures.counts ∙ c.in_ok-spill.ensures.flushes)
+
+pub returns-clause-counted : goal.returns-clause-counted
+returns-clause-counted g c = c.in_ok-flush.ensures.counts ∙ ap (λ (n : ℕ). flushes_after {E = Fault} n (Ok c.in_ok-flush.field-0)) c.in_ok-spill.ensures.flushes

@@ -6,11 +6,12 @@ use Rattle.bd_engine.specs.Engines.{EngineState, IsWornIn}
 use Rattle.bd_engine.proofs.Left.{step_waits}
 use Rattle.bd_volume.specs.declared.volume.Volume.{Volume}
 use Rattle.bd_volume.specs.Volume.{view_of}
-use Rattle.bd_volume.proofs.Called.{went_on, ends_then, read_fails}
+use Rattle.bd_volume.proofs.Called.{went_on, goes_then, ends_then, ends_err, ends_well, read_goes, read_fails}
 use Rattle.bd_volume.proofs.Faulted.{flush_fails, flush_shows}
 use Rattle.bd_volume.proofs.Keeping.{keeps_nodes, keeps_then}
 use Rattle.bd_volume.proofs.Room.{room_nodes}
 use Rattle.bd_volume.proofs.Stepped.{one_flush}
+use Rattle.bd_volume.proofs.Writes.{writes_read, writes_nodes}
 use Rattle.bd_volume.proofs.volume.Volume.flush_step.Goals as goal
 
 pub returns-in_err-flushed-clause-fails : goal.returns-in_err-flushed-clause-fails
@@ -20,7 +21,7 @@ returns-in_err-flushed-clause-fails g c = λ s.
     let a : Volume g.row.D.Denot = c.make_room.new.self in
     let b : Volume g.row.D.Denot = record a { engine = c.flush-flushed.new.self } in
     let sound = c.in_ok-make_room.ensures.sound s in
-    rw (p.1, p.2) (flush_fails g.D.Device _ _ a b c.args.command.now c.in_err-flushed.field-0.0 sound.known (step_waits _ _ _ (λ e. cc) h.enough) (h.rest (λ e. cc)).view (c.sound_nodes_are_undamaged.ensures (h.sound sound)) h.cause.failed)
+    rw (p.1, p.2) (flush_fails g.D.Device _ _ _ a b c.args.command.now c.in_err-flushed.field-0.0 sound.known (step_waits _ _ _ (λ e. cc) h.enough) (h.rest (λ e. cc)).view (c.sound_nodes_are_undamaged.ensures (h.sound sound)) h.cause.failed)
 
 pub returns-in_err-flushed-clause-shows : goal.returns-in_err-flushed-clause-shows
 returns-in_err-flushed-clause-shows g c =
@@ -28,7 +29,7 @@ returns-in_err-flushed-clause-shows g c =
     let h = c.in_err-flushed.ensures in
     let a : Volume g.row.D.Denot = c.make_room.new.self in
     let b : Volume g.row.D.Denot = record a { engine = c.flush-flushed.new.self } in
-    rw (p.1, p.2) (flush_shows g.D.Device _ _ a b c.args.self.now.count c.args.command.now c.in_err-flushed.field-0.0 (h.rest (λ e. cc)).read h.cause.failed)
+    rw (p.1, p.2) (flush_shows g.D.Device _ _ _ a b c.args.command.now c.in_err-flushed.field-0.0 (step_waits _ _ _ (λ e. cc) h.enough) (h.rest (λ e. cc)).read h.cause.failed)
 
 pub returns-in_err-flushed-clause-ends : goal.returns-in_err-flushed-clause-ends
 returns-in_err-flushed-clause-ends g c =
@@ -39,7 +40,7 @@ returns-in_err-flushed-clause-ends g c =
     let left = h.rest (λ e. cc) in
     let first = went_on g.D.Device c.args.self.now a _ c.in_ok-make_room.ensures.ends c.in_ok-make_room.ensures.count_stays in
     rw (p.1, p.2) (ends_then g.D.Device c.args.self.now a b _ first
-    (read_fails g.D.Device a b (IsWornIn g.D.Device a.engine.pager) c.in_err-flushed.field-0.0 first.going.stop_is (ap (λ (e : EngineState g.row.D.Denot). e.stop) left.rest) left.read.device h.cause))
+    (read_fails g.D.Device a b (IsWornIn g.D.Device a.engine.pager) c.in_err-flushed.field-0.0 first.going.stop_is (ap (λ (e : EngineState g.row.D.Denot). e.stop) left.rest) left.read.device h.cause (writes_read g.D.Device a.engine b.engine left)))
 
 pub returns-clause-flushed : goal.returns-clause-flushed
 returns-clause-flushed g c = λ s is.
@@ -74,3 +75,17 @@ returns-in_err-flushed-clause-log g c = λ room.
 pub returns-clause-log : goal.returns-clause-log
 returns-clause-log g c = λ room.
     room_nodes g.D.Device c.args.command.now c.make_room.new.self.engine c.flush-flushed.new.self c.in_ok-flushed.ensures.only (c.in_ok-make_room.ensures.log room)
+
+pub returns-in_err-make_room-clause-ends : goal.returns-in_err-make_room-clause-ends
+returns-in_err-make_room-clause-ends g c =
+    let p = err_from_is_err_and c.from_residual.result c.from_residual.ensures.1 in
+    rw (p.1, p.2) (ends_err g.D.Device c.args.self.now c.make_room.new.self c.in_err-make_room.field-0.0 c.in_err-make_room.ensures.ends)
+
+pub returns-clause-ends : goal.returns-clause-ends
+returns-clause-ends g c =
+    let h = c.in_ok-flushed.ensures in
+    let a : Volume g.row.D.Denot = c.make_room.new.self in
+    let b : Volume g.row.D.Denot = record a { engine = c.flush-flushed.new.self } in
+    let first = went_on g.D.Device c.args.self.now a _ c.in_ok-make_room.ensures.ends c.in_ok-make_room.ensures.count_stays in
+    let next = read_goes g.D.Device a b first.going.stop_is (ap (λ (e : EngineState g.row.D.Denot). e.stop) h.only.rest) h.only.keeps.device h.cause.kept refl (writes_nodes g.D.Device a.engine b.engine h.only) in
+    ends_well g.D.Device c.args.self.now b _ (goes_then g.D.Device c.args.self.now a b first next)

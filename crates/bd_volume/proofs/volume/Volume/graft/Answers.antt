@@ -14,6 +14,7 @@ use Rattle.bd_volume.proofs.Room.{room_nodes}
 use Rattle.bd_volume.proofs.Sent.{grafted_over}
 use Rattle.bd_volume.proofs.Stepped.{stepped_stand}
 use Rattle.bd_volume.proofs.Read.{logged_sound}
+use Rattle.bd_volume.proofs.Writes.{writes_read, writes_nodes}
 use Rattle.bd_volume.proofs.volume.Volume.graft.Goals as goal
 
 pub returns-in_err-grafted-clause-fails : goal.returns-in_err-grafted-clause-fails
@@ -24,7 +25,7 @@ returns-in_err-grafted-clause-fails g c = λ s.
     let b : Volume g.row.D.Denot = record a { engine = c.graft-grafted.new.self } in
     let ready = c.in_ok-make_ready.ensures in
     let sound = ready.sound s in
-    rw (p.1, p.2) (graft_halts g.D.Device _ _ (IsWornForGraft (table_of a.engine.pager)) b c.args.self.now.count c.args.command.now (view_of g.D.Device c.args.self.now) (view_of g.D.Device a) c.args.s.now c.args.d.now c.args.keep c.in_err-grafted.field-0.0
+    rw (p.1, p.2) (graft_halts g.D.Device _ _ _ (IsWornForGraft (table_of a.engine.pager)) b c.args.self.now.count c.args.command.now (view_of g.D.Device c.args.self.now) (view_of g.D.Device a) c.args.s.now c.args.d.now c.args.keep c.in_err-grafted.field-0.0
     c.requires.logged.0 c.requires.kind (ready.stepped s) ready.enough h.err.view (c.sound_nodes_are_undamaged.ensures (h.sound sound)) h.cause.failed (h.worn sound))
 
 pub returns-in_err-grafted-clause-shows : goal.returns-in_err-grafted-clause-shows
@@ -33,7 +34,8 @@ returns-in_err-grafted-clause-shows g c =
     let h = c.in_err-grafted.ensures in
     let a : Volume g.row.D.Denot = c.make_ready.new.self in
     let b : Volume g.row.D.Denot = record a { engine = c.graft-grafted.new.self } in
-    rw (p.1, p.2) (graft_shows g.D.Device _ _ a b c.args.self.now.count c.args.command.now c.in_err-grafted.field-0.0 h.err.read h.cause.failed)
+    rw (p.1, p.2) (graft_shows g.D.Device _ _ _ a b c.args.self.now.count c.args.self.now.engine.flushes c.args.command.now c.args.s.now c.args.d.now c.args.keep c.in_err-grafted.field-0.0
+    c.requires.kind c.in_ok-make_ready.ensures.enough h.err.read h.cause.failed)
 
 pub returns-in_err-grafted-clause-ends : goal.returns-in_err-grafted-clause-ends
 returns-in_err-grafted-clause-ends g c =
@@ -43,7 +45,7 @@ returns-in_err-grafted-clause-ends g c =
     let b : Volume g.row.D.Denot = record a { engine = c.graft-grafted.new.self } in
     let first = went_on g.D.Device c.args.self.now a _ c.in_ok-make_ready.ensures.ends c.in_ok-make_ready.ensures.count_stays in
     rw (p.1, p.2) (ends_then g.D.Device c.args.self.now a b _ first
-    (read_fails g.D.Device a b (IsWornForGraft (table_of a.engine.pager)) c.in_err-grafted.field-0.0 first.going.stop_is (ap (λ (e : EngineState g.row.D.Denot). e.stop) h.err.rest) h.err.read.device h.cause))
+    (read_fails g.D.Device a b (IsWornForGraft (table_of a.engine.pager)) c.in_err-grafted.field-0.0 first.going.stop_is (ap (λ (e : EngineState g.row.D.Denot). e.stop) h.err.rest) h.err.read.device h.cause (writes_read g.D.Device a.engine b.engine h.err)))
 
 pub returns-clause-grafted : goal.returns-clause-grafted
 returns-clause-grafted g c = λ s.
@@ -108,5 +110,5 @@ returns-clause-ends g c =
     let b : Volume g.row.D.Denot = record a { engine = c.graft-grafted.new.self } in
     let h = c.in_ok-grafted.ensures in
     let first = went_on g.D.Device c.args.self.now a _ c.in_ok-make_ready.ensures.ends c.in_ok-make_ready.ensures.count_stays in
-    let next = read_goes g.D.Device a b first.going.stop_is (ap (λ (e : EngineState g.row.D.Denot). e.stop) h.only.rest) h.only.keeps.device h.cause.kept refl in
-    ends_logged g.D.Device c.args.self.now b (record { engine = c.log.new.self; count = a.count + 1 }) _ (goes_then g.D.Device c.args.self.now a b first next) (ap (λ (e : EngineState g.row.D.Denot). e.pager) c.log.ensures.log) (ap (λ (e : EngineState g.row.D.Denot). e.stop) c.log.ensures.log)
+    let next = read_goes g.D.Device a b first.going.stop_is (ap (λ (e : EngineState g.row.D.Denot). e.stop) h.only.rest) h.only.keeps.device h.cause.kept refl (writes_nodes g.D.Device a.engine b.engine h.only) in
+    ends_logged g.D.Device c.args.self.now b (record { engine = c.log.new.self; count = a.count + 1 }) _ (goes_then g.D.Device c.args.self.now a b first next) (ap (λ (e : EngineState g.row.D.Denot). e.pager) c.log.ensures.log) (ap (λ (e : EngineState g.row.D.Denot). e.live) c.log.ensures.log) (ap (λ (e : EngineState g.row.D.Denot). e.stop) c.log.ensures.log)

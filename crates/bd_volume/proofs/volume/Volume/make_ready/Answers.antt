@@ -1,12 +1,17 @@
 -- Each step is one more, and a fault leaves the steps before it.
-use Rattle.std.proofs.Common.{◌≡◌, ◌<◌, refl, ap, arith}
-use Rattle.std.specs.Prelude.{Ok}
+use Rattle.std.proofs.Common.{◌≡◌, ℕ, ◌<◌, Bool, refl, ap, ◌∙◌, arith}
+use Rattle.std.specs.Prelude.{Result, Ok}
 use Rattle.std.proofs.lemmas.Result.{err_from_is_err_and}
 use Rattle.bd_limits.specs.Limits.{flush_limit}
+use Rattle.bd_message.specs.declared.fault.Counter.TheVariants.{Flushes}
+use Rattle.bd_pager.specs.Pagers.{table_of}
 use Rattle.bd_view.specs.Trees.{waiting_limit}
+use Rattle.bd_engine.specs.Engines.{flushed_on, flushes_after}
+use Rattle.bd_engine.proofs.Counted.{flushed_none, flushed_once}
+use Rattle.bd_volume.specs.declared.fault.Fault.{Fault}
 use Rattle.bd_volume.specs.Volume.{view_of}
-use Rattle.bd_volume.proofs.Called.{went_on, goes_then, ends_then, ends_err}
-use Rattle.bd_volume.proofs.Faulted.{step_halts, count_worn, flushes_worn}
+use Rattle.bd_volume.proofs.Called.{went_on, goes_then, ends_then, ends_err, ends_well, ends_worn}
+use Rattle.bd_volume.proofs.Faulted.{step_halts, count_worn, flushes_worn, step_shows}
 use Rattle.bd_volume.proofs.Keeping.{keeps_none, keeps_then}
 use Rattle.bd_volume.proofs.Stepped.{steps_then, steps_saved, has_stepped, not_stepped}
 use Rattle.bd_volume.proofs.volume.Volume.make_ready.Goals as goal
@@ -42,6 +47,7 @@ loop-made-init g c =
       sound = h.sound;
       keeps = h.keeps;
       log = h.log;
+      made = h.flushes ∙ flushed_none c.args.self.now.engine.flushes (omega (arith, c.flushes.ensures, c.flushes.type_inv));
       steps = h.steps;
     }
 
@@ -84,6 +90,7 @@ loop-made-preserved g c =
       sound = λ s. h.sound (i.sound s);
       keeps = keeps_then g.D.Device c.args.self.now c.loop-made.self c.flush_step.new.self (g.met.D.Device.since_earlier c.loop-made.self.engine.pager.dev) i.keeps h.keeps;
       log = h.log i.log;
+      made = h.counted ∙ ap (λ (r : Result Bool Fault). flushes_after c.loop-made.self.engine.flushes r) (ap Ok c.if-not-branch.false) ∙ ap (λ (n : ℕ). flushed_on n 1) i.made ∙ flushed_once c.args.self.now.engine.flushes c.loop-made._made;
       steps = λ s. steps_then c.args.command.now c.loop-made._made 1 (view_of g.D.Device c.args.self.now) (view_of g.D.Device c.loop-made.self) (view_of g.D.Device c.flush_step.new.self) (i.steps s)
           (h.flushed (i.sound s) (ap Ok c.if-not-branch.false));
     }
@@ -157,6 +164,30 @@ pub returns-clause-keeps : goal.returns-clause-keeps
 returns-clause-keeps g c =
     keeps_then g.D.Device c.args.self.now c.loop-made.self c.make_room.new.self (g.met.D.Device.since_earlier c.loop-made.self.engine.pager.dev) c.loop-made.invariant.keeps c.in_ok-make_room.ensures.keeps
 
+pub returns-in_err-make_log_room-clause-shows : goal.returns-in_err-make_log_room-clause-shows
+returns-in_err-make_log_room-clause-shows g c =
+    let p = err_from_is_err_and c.from_residual.result c.from_residual.ensures.1 in
+    rw (p.1, p.2) (step_shows g.D.Device c.in_err-make_log_room.field-0.0 c.args.self.now.count c.args.self.now.engine.flushes c.args.command.now c.make_log_room.new.self.engine c.in_err-make_log_room.ensures.shows)
+
+pub returns-in_err-flush_step-clause-shows : goal.returns-in_err-flush_step-clause-shows
+returns-in_err-flush_step-clause-shows g c =
+    let p = err_from_is_err_and c.from_residual-in_err-flush_step.result c.from_residual-in_err-flush_step.ensures.1 in
+    rw (p.1, p.2) (step_shows g.D.Device c.in_err-flush_step.field-0.0 c.args.self.now.count c.args.self.now.engine.flushes c.args.command.now c.flush_step.new.self.engine c.in_err-flush_step.ensures.shows)
+
+pub returns-in_err-make_room-clause-shows : goal.returns-in_err-make_room-clause-shows
+returns-in_err-make_room-clause-shows g c =
+    let p = err_from_is_err_and c.from_residual-in_err-make_room.result c.from_residual-in_err-make_room.ensures.1 in
+    rw (p.1, p.2) (step_shows g.D.Device c.in_err-make_room.field-0.0 c.args.self.now.count c.args.self.now.engine.flushes c.args.command.now c.make_room.new.self.engine c.in_err-make_room.ensures.shows)
+
+pub returns-clause-shows : goal.returns-clause-shows
+returns-clause-shows g c =
+    let all : c.loop-made._made ≡ flush_limit = omega (arith, c.loop-made.auto._made-end, c.loop-made-test.false) in
+    let waits : waiting_limit c.args.command.now < (table_of c.make_room.new.self.engine.pager).size = omega (arith, c.root_size.ensures, c.waiting_limit.ensures, c.if-root_size-waiting_limit.false) in
+    record {
+      made = c.in_ok-make_room.ensures.flushes ∙ c.loop-made.invariant.made ∙ ap (λ (n : ℕ). flushed_on c.args.self.now.engine.flushes n) all;
+      waits = waits;
+    }
+
 pub returns-in_err-flush_step-clause-ends : goal.returns-in_err-flush_step-clause-ends
 returns-in_err-flush_step-clause-ends g c =
     let p = err_from_is_err_and c.from_residual-in_err-flush_step.result c.from_residual-in_err-flush_step.ensures.1 in
@@ -166,3 +197,21 @@ pub returns-in_err-make_room-clause-ends : goal.returns-in_err-make_room-clause-
 returns-in_err-make_room-clause-ends g c =
     let p = err_from_is_err_and c.from_residual-in_err-make_room.result c.from_residual-in_err-make_room.ensures.1 in
     rw (p.1, p.2) (ends_then g.D.Device c.args.self.now c.loop-made.self c.make_room.new.self _ c.loop-made.invariant.goes (ends_err g.D.Device c.loop-made.self c.make_room.new.self c.in_err-make_room.field-0.0 c.in_err-make_room.ensures.ends))
+
+pub returns-then-not-branch-clause-ends : goal.returns-then-not-branch-clause-ends
+returns-then-not-branch-clause-ends g c =
+    let h = c.in_ok-flush_step.ensures in
+    ends_well g.D.Device c.args.self.now c.flush_step.new.self _
+    (goes_then g.D.Device c.args.self.now c.loop-made.self c.flush_step.new.self c.loop-made.invariant.goes (went_on g.D.Device c.loop-made.self c.flush_step.new.self _ h.ends h.count_stays))
+
+pub returns-then-root_size-waiting_limit-clause-ends : goal.returns-then-root_size-waiting_limit-clause-ends
+returns-then-root_size-waiting_limit-clause-ends g c =
+    let h = c.in_ok-make_room.ensures in
+    ends_well g.D.Device c.args.self.now c.make_room.new.self _
+    (goes_then g.D.Device c.args.self.now c.loop-made.self c.make_room.new.self c.loop-made.invariant.goes (went_on g.D.Device c.loop-made.self c.make_room.new.self _ h.ends h.count_stays))
+
+pub returns-clause-ends : goal.returns-clause-ends
+returns-clause-ends g c =
+    let h = c.in_ok-make_room.ensures in
+    ends_worn g.D.Device c.args.self.now c.make_room.new.self Flushes
+    (goes_then g.D.Device c.args.self.now c.loop-made.self c.make_room.new.self c.loop-made.invariant.goes (went_on g.D.Device c.loop-made.self c.make_room.new.self _ h.ends h.count_stays))

@@ -4,7 +4,7 @@ use Rattle.std.proofs.lemmas.Result.{err_from_is_err_and}
 use Rattle.bd_view.specs.Views.{free_slots, need_slots}
 use Rattle.bd_engine.specs.Engines.{EngineState}
 use Rattle.bd_volume.specs.declared.fault.Fault.{Fault}
-use Rattle.bd_volume.specs.Steps.{ShowsFault, IsStepFault}
+use Rattle.bd_volume.specs.Steps.{ShowsStep, IsStepFault}
 use Rattle.bd_volume.specs.Volume.{view_of}
 use Rattle.bd_volume.proofs.Called.{went_on, goes_then, ends_then, ends_err, ends_well, ends_full}
 use Rattle.bd_volume.proofs.Early.{early_short}
@@ -32,7 +32,7 @@ returns-in_err-spill-clause-fails g c = λ s.
 pub returns-in_err-spill-clause-shows : goal.returns-in_err-spill-clause-shows
 returns-in_err-spill-clause-shows g c =
     let p = err_from_is_err_and c.from_residual-in_err-spill.result c.from_residual-in_err-spill.ensures.1 in
-    rw (p.1, p.2) (subst (λ (fault : Fault). ShowsFault g.D.Device fault c.args.self.now.count c.args.command.now c.spill.new.self.engine) (sym c.in_err-spill.ensures.kind) tt)
+    rw (p.1, p.2) (subst (λ (fault : Fault). ShowsStep g.D.Device fault c.args.command.now c.spill.new.self.engine) (sym c.in_err-spill.ensures.kind) tt)
 
 pub returns-in_err-spill-clause-log : goal.returns-in_err-spill-clause-log
 returns-in_err-spill-clause-log g c = λ room.

@@ -7,6 +7,7 @@ use Rattle.bd_volume.specs.Volume.{StandsFor, view_of}
 use Rattle.bd_volume.proofs.Executed.{at_err, damage_named}
 use Rattle.bd_volume.proofs.Keeping.{keys_none}
 use Rattle.bd_volume.proofs.Reclaimed.{faults_begun}
+use Rattle.bd_volume.proofs.Writes.{writes_none}
 use Rattle.bd_volume.proofs.volume.Volume.reclaim.Goals as goal
 
 pub returns-clause-begun : goal.returns-clause-begun
@@ -30,10 +31,20 @@ returns-clause-damage g c =
 
 pub returns-clause-numbers : goal.returns-clause-numbers
 returns-clause-numbers g c = λ free need is.
-    at_err c.reclaim_nodes-done.result (Full free need) (λ fault. ShowsReclaim fault (view_of g.D.Device c.reclaim_nodes-done.new.self)) c.reclaim_nodes-done.ensures.shows is
+    at_err c.reclaim_nodes-done.result (Full free need) (λ fault. ShowsReclaim g.D.Device fault c.reclaim_nodes-done.new.self.engine) c.reclaim_nodes-done.ensures.shows is
+
+pub returns-clause-shows : goal.returns-clause-shows
+returns-clause-shows g c = λ which is.
+    at_err c.reclaim_nodes-done.result (Worn which) (λ fault. ShowsReclaim g.D.Device fault c.reclaim_nodes-done.new.self.engine) c.reclaim_nodes-done.ensures.shows is
 
 pub returns-in-Some-clause-keys : goal.returns-in-Some-clause-keys
 returns-in-Some-clause-keys g c = keys_none g.D.Device c.args.self.now
 
 pub returns-clause-keys : goal.returns-clause-keys
 returns-clause-keys g c = c.reclaim_nodes-done.ensures.keys
+
+pub returns-in-Some-clause-writes : goal.returns-in-Some-clause-writes
+returns-in-Some-clause-writes g c = writes_none g.D.Device c.args.self.now.engine
+
+pub returns-clause-writes : goal.returns-clause-writes
+returns-clause-writes g c = c.reclaim_nodes-done.ensures.ends.writes

@@ -11,20 +11,20 @@ returns-in_err-checkpoint-clause-fails g c =
     let p = err_from_is_err_and c.from_residual.result c.from_residual.ensures.1 in
     let h = c.in_err-checkpoint.ensures in
     rw (p.1, p.2) (first_fails g.D.Device c.args.self.now c.checkpoint.new.self c.in_err-checkpoint.field-0.0
-    (record { going = c.requires; unmoved = h.unmoved; full = h.full; wears = h.wears; undamaged = h.undamaged; cause = h.cause }))
+    (record { going = c.requires; unmoved = h.unmoved; full = h.full; wears = h.wears; undamaged = h.undamaged; unsaved = h.unsaved; cause = h.cause }))
 
 pub returns-in_err-checkpoint-clause-shows : goal.returns-in_err-checkpoint-clause-shows
 returns-in_err-checkpoint-clause-shows g c =
     let p = err_from_is_err_and c.from_residual.result c.from_residual.ensures.1 in
     let h = c.in_err-checkpoint.ensures in
     rw (p.1, p.2) (save_shows g.D.Device c.args.self.now c.checkpoint.new.self c.in_err-checkpoint.field-0.0
-    (record { going = c.requires; unmoved = h.unmoved; full = h.full; wears = h.wears; undamaged = h.undamaged; cause = h.cause }))
+    (record { going = c.requires; unmoved = h.unmoved; full = h.full; wears = h.wears; undamaged = h.undamaged; unsaved = h.unsaved; cause = h.cause }))
 
 pub returns-in_err-checkpoint-clause-ends : goal.returns-in_err-checkpoint-clause-ends
 returns-in_err-checkpoint-clause-ends g c =
     let p = err_from_is_err_and c.from_residual.result c.from_residual.ensures.1 in
     let h = c.in_err-checkpoint.ensures in
-    rw (p.1, p.2) (record { cause = h.cause; stop = h.stop c.requires; stays = h.device })
+    rw (p.1, p.2) (record { cause = h.cause; stop = h.stop c.requires; stays = h.device; writes = h.writes })
 
 pub returns-in_err-change_all-clause-fails : goal.returns-in_err-change_all-clause-fails
 returns-in_err-change_all-clause-fails g c =
@@ -44,13 +44,13 @@ returns-in_err-change_all-clause-keeps g c =
 pub returns-in_err-change_all-clause-shows : goal.returns-in_err-change_all-clause-shows
 returns-in_err-change_all-clause-shows g c =
     let p = err_from_is_err_and c.from_residual-in_err-change_all.result c.from_residual-in_err-change_all.ensures.1 in
-    rw (p.1, p.2) (between_shows c.in_err-change_all.field-0.0 (view_of g.D.Device c.change_all.new.self) c.in_err-change_all.ensures.shows)
+    rw (p.1, p.2) (between_shows g.D.Device c.in_err-change_all.field-0.0 c.change_all.new.self.engine c.in_err-change_all.ensures.shows)
 
 pub returns-in_err-change_all-clause-ends : goal.returns-in_err-change_all-clause-ends
 returns-in_err-change_all-clause-ends g c =
     let p = err_from_is_err_and c.from_residual-in_err-change_all.result c.from_residual-in_err-change_all.ensures.1 in
     let h = c.in_ok-checkpoint.ensures in
-    let goes = went_on g.D.Device c.args.self.now c.checkpoint.new.self _ (record { cause = h.cause; stop = h.stop c.requires; stays = h.device }) h.count_stays in
+    let goes = went_on g.D.Device c.args.self.now c.checkpoint.new.self _ (record { cause = h.cause; stop = h.stop c.requires; stays = h.device; writes = h.writes }) h.count_stays in
     rw (p.1, p.2) (ends_then g.D.Device c.args.self.now c.checkpoint.new.self c.change_all.new.self _ goes c.in_err-change_all.ensures.ends)
 
 pub returns-clause-reclaims : goal.returns-clause-reclaims
@@ -67,7 +67,7 @@ returns-clause-fails g c =
     let l = c.checkpoint-2.ensures in
     lasts_fail g.D.Device c.checkpoint-2.result c.args.self.now c.checkpoint.new.self c.change_all.new.self c.checkpoint-2.new.self
     (λ t n s. (h.saves t n s, k.changes (h.stays t n s).nodes, (k.keeps t n (h.stays t n s)).stands))
-    (record { going = k.ends.stop.ok.stop_is; unmoved = l.unmoved; full = l.full; wears = l.wears; undamaged = l.undamaged; cause = l.cause })
+    (record { going = k.ends.stop.ok.stop_is; unmoved = l.unmoved; full = l.full; wears = l.wears; undamaged = l.undamaged; unsaved = l.unsaved; cause = l.cause })
 
 pub returns-clause-keeps : goal.returns-clause-keeps
 returns-clause-keeps g c =
@@ -85,17 +85,17 @@ returns-clause-shows g c =
     let k = c.in_ok-change_all.ensures in
     let l = c.checkpoint-2.ensures in
     saves_show g.D.Device c.checkpoint-2.result c.change_all.new.self c.checkpoint-2.new.self
-    (record { going = k.ends.stop.ok.stop_is; unmoved = l.unmoved; full = l.full; wears = l.wears; undamaged = l.undamaged; cause = l.cause })
+    (record { going = k.ends.stop.ok.stop_is; unmoved = l.unmoved; full = l.full; wears = l.wears; undamaged = l.undamaged; unsaved = l.unsaved; cause = l.cause })
 
 pub returns-clause-ends : goal.returns-clause-ends
 returns-clause-ends g c =
     let h = c.in_ok-checkpoint.ensures in
     let k = c.in_ok-change_all.ensures in
     let l = c.checkpoint-2.ensures in
-    let goes = went_on g.D.Device c.args.self.now c.checkpoint.new.self _ (record { cause = h.cause; stop = h.stop c.requires; stays = h.device }) h.count_stays in
+    let goes = went_on g.D.Device c.args.self.now c.checkpoint.new.self _ (record { cause = h.cause; stop = h.stop c.requires; stays = h.device; writes = h.writes }) h.count_stays in
     let went = goes_then g.D.Device c.args.self.now c.checkpoint.new.self c.change_all.new.self goes (went_on g.D.Device c.checkpoint.new.self c.change_all.new.self _ k.ends k.count_stays) in
     ends_then g.D.Device c.args.self.now c.change_all.new.self c.checkpoint-2.new.self c.checkpoint-2.result went
-    (record { cause = l.cause; stop = l.stop k.ends.stop.ok.stop_is; stays = l.device })
+    (record { cause = l.cause; stop = l.stop k.ends.stop.ok.stop_is; stays = l.device; writes = l.writes })
 
 pub returns-in_err-checkpoint-clause-keys : goal.returns-in_err-checkpoint-clause-keys
 returns-in_err-checkpoint-clause-keys g c = c.in_err-checkpoint.ensures.keys

@@ -27,7 +27,7 @@ loop-placed-preserved g c =
     let next = next_placed list at c.placed-item.result c.loop-placed-test.true c.placed-item.is in
     record {
       front = front_more g.D.Device list (drop (at + 1) list) c.placed-item.result c.args.self.now c.loop-placed.self c.replay_one.new.self (front_same g.D.Device list (drop at list) (c.placed-item.result ∷ drop (at + 1) list) c.args.self.now c.loop-placed.self next i.front)
-          h.writes.early.good h.sound h.replays h.counts;
+          h.writes.early.good h.sound h.replays h.counts h.few;
       goes = goes_both g.D.Device c.args.self.now c.loop-placed.self c.replay_one.new.self i.goes (goes_ok g.D.Device c.loop-placed.self c.replay_one.new.self _ h.writes);
       faults = h.cause.kept ∙ i.faults;
     }
@@ -68,3 +68,17 @@ returns-clause-cause g c = cause_ok g.D.Device c.args.self.now c.loop-placed.sel
 
 pub returns-clause-writes : goal.returns-clause-writes
 returns-clause-writes g c = early_goes g.D.Device c.args.self.now c.loop-placed.self _ c.loop-placed.invariant.goes
+
+pub returns-in_err-replay_one-clause-shows : goal.returns-in_err-replay_one-clause-shows
+returns-in_err-replay_one-clause-shows g c =
+    let p = err_from_is_err_and c.from_residual.result c.from_residual.ensures.1 in
+    let list = c.args.commands.now in
+    let at = c.loop-placed.placed-index in
+    let next = next_placed list at c.placed-item.result c.loop-placed-test.true c.placed-item.is in
+    rw (p.1, p.2) (record {
+      next = c.placed-item.result;
+      rest = drop (at + 1) list;
+      mid = c.loop-placed.self;
+      before = front_same g.D.Device list (drop at list) (c.placed-item.result ∷ drop (at + 1) list) c.args.self.now c.loop-placed.self next c.loop-placed.invariant.front;
+      shows = c.in_err-replay_one.ensures.shows;
+    })

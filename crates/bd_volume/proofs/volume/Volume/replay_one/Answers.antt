@@ -1,14 +1,16 @@
 -- A command is planned, and what is planned is done.
-use Rattle.std.proofs.Common.{◌+◌, refl, arith, sym, subst}
+use Rattle.std.proofs.Common.{◌+◌, refl, arith, sym, subst, ap}
+use Rattle.std.specs.Prelude.{⊤, Err}
 use Rattle.std.proofs.lemmas.Result.{err_from_is_err_and}
 use Rattle.bd_message.specs.KeyMaps.{NeverWorn}
 use Rattle.bd_dirs.specs.Plans.{IsPlan}
-use Rattle.bd_engine.specs.Engines.{keys_of}
+use Rattle.bd_engine.specs.Engines.{EngineState, keys_of}
 use Rattle.bd_node.specs.Tables.{root_at}
 use Rattle.bd_view.specs.Views.{View}
 use Rattle.bd_volume.specs.declared.volume.Volume.{Volume}
 use Rattle.bd_volume.specs.Volume.{view_of}
 use Rattle.bd_volume.proofs.Early.{early_goes, early_fails, goes_none, goes_ok, goes_both, goes_counted, goes_read}
+use Rattle.bd_volume.proofs.Faulted.{shows_same}
 use Rattle.bd_volume.proofs.Replayed.{cause_worn, cause_map, cause_ok, cause_then, count_again, plan_fails, replay_fails, read_has, replays_read}
 use Rattle.bd_volume.proofs.volume.Volume.replay_one.Goals as goal
 
@@ -27,7 +29,7 @@ returns-in_err-plan-clause-fails g c =
     let h = c.in_err-plan.ensures in
     let a : Volume g.row.D.Denot = c.args.self.now in
     let b : Volume g.row.D.Denot = record a { engine = c.plan.new.self } in
-    rw (p.1, p.2) (plan_fails g.D.Device _ _ a b c.args.placed.now c.in_err-plan.field-0.0 h.read h.cause.failed)
+    rw (p.1, p.2) (plan_fails g.D.Device _ _ _ a b c.args.placed.now c.in_err-plan.field-0.0 h.read h.cause.failed)
 
 pub returns-in_err-plan-clause-writes : goal.returns-in_err-plan-clause-writes
 returns-in_err-plan-clause-writes g c =
@@ -91,3 +93,26 @@ returns-clause-cause g c =
     let b : Volume g.row.D.Denot = record a { engine = c.plan.new.self } in
     let d : Volume g.row.D.Denot = record c.send_planned.new.self { count = c.send_planned.new.self.count + 1 } in
     cause_then g.D.Device _ a b d c.in_ok-plan.ensures.cause.kept (cause_ok g.D.Device b d _ c.in_ok-send_planned.ensures.cause.kept)
+
+-- ---- what is told where the nodes may not be known
+
+pub returns-in_err-send_planned-clause-shows : goal.returns-in_err-send_planned-clause-shows
+returns-in_err-send_planned-clause-shows g c =
+    let p = err_from_is_err_and c.from_residual-in_err-send_planned.result c.from_residual-in_err-send_planned.ensures.1 in
+    let read = c.in_ok-plan.ensures.read in
+    rw (p.1, p.2) (shows_same g.D.Device {T = ⊤} (Err c.in_err-send_planned.field-0.0) c.args.self.now.count c.plan.new.self.flushes c.args.self.now.engine.flushes c.args.placed.now.command c.send_planned.new.self.engine (ap (λ (e : EngineState g.row.D.Denot). e.flushes) read.rest) c.in_err-send_planned.ensures.shows)
+
+pub returns-in_err-send_planned-clause-few : goal.returns-in_err-send_planned-clause-few
+returns-in_err-send_planned-clause-few g c =
+    let same = ap (λ (e : EngineState g.row.D.Denot). e.flushes) c.in_ok-plan.ensures.read.rest in
+    omega (arith, same, c.in_err-send_planned.ensures.few)
+
+pub returns-clause-few : goal.returns-clause-few
+returns-clause-few g c =
+    let same = ap (λ (e : EngineState g.row.D.Denot). e.flushes) c.in_ok-plan.ensures.read.rest in
+    omega (arith, same, c.in_ok-send_planned.ensures.few)
+
+pub returns-in_err-plan-clause-few : goal.returns-in_err-plan-clause-few
+returns-in_err-plan-clause-few g c =
+    let same = ap (λ (e : EngineState g.row.D.Denot). e.flushes) c.in_err-plan.ensures.read.rest in
+    omega (arith, same)

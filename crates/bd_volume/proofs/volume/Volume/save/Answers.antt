@@ -17,7 +17,7 @@ returns-in_err-save-clause-ends g c =
     let p = err_from_is_err_and c.from_residual.result c.from_residual.ensures.1 in
     let h = c.in_err-save.ensures in
     let a : Volume g.row.D.Denot = c.args.self.now in
-    rw (p.1, p.2) (save_fails g.D.Device a (record a { engine = c.save.new.self }) c.in_err-save.field-0.0 h.later h.stop h.cause h.stays)
+    rw (p.1, p.2) (save_fails g.D.Device a (record a { engine = c.save.new.self }) c.in_err-save.field-0.0 h.later h.stop h.cause h.stays h.writes)
 
 pub returns-in_err-save-clause-untouched : goal.returns-in_err-save-clause-untouched
 returns-in_err-save-clause-untouched g c =

@@ -13,6 +13,7 @@ use Rattle.bd_volume.proofs.Room.{room_nodes}
 use Rattle.bd_volume.proofs.Sent.{applied_over}
 use Rattle.bd_volume.proofs.Stepped.{stepped_stand}
 use Rattle.bd_volume.proofs.Read.{logged_sound}
+use Rattle.bd_volume.proofs.Writes.{writes_read, writes_nodes}
 use Rattle.bd_volume.proofs.volume.Volume.send.Goals as goal
 
 pub returns-in_err-appended-clause-fails : goal.returns-in_err-appended-clause-fails
@@ -21,7 +22,7 @@ returns-in_err-appended-clause-fails g c = λ s.
     let h = c.in_err-appended.ensures in
     let a : Volume g.row.D.Denot = c.make_ready.new.self in
     let b : Volume g.row.D.Denot = record a { engine = c.append-appended.new.self } in
-    rw (p.1, p.2) (read_halts g.D.Device _ _ b c.args.self.now.count c.args.command.now (view_of g.D.Device c.args.self.now) (view_of g.D.Device b) c.in_err-appended.field-0.0
+    rw (p.1, p.2) (read_halts g.D.Device _ _ _ b c.args.self.now.count c.args.command.now (view_of g.D.Device c.args.self.now) (view_of g.D.Device b) c.in_err-appended.field-0.0
     (c.sound_nodes_are_undamaged.ensures (h.sound (c.in_ok-make_ready.ensures.sound s))) h.cause.failed)
 
 pub returns-in_err-appended-clause-ends : goal.returns-in_err-appended-clause-ends
@@ -32,7 +33,7 @@ returns-in_err-appended-clause-ends g c =
     let b : Volume g.row.D.Denot = record a { engine = c.append-appended.new.self } in
     let first = went_on g.D.Device c.args.self.now a _ c.in_ok-make_ready.ensures.ends c.in_ok-make_ready.ensures.count_stays in
     rw (p.1, p.2) (ends_then g.D.Device c.args.self.now a b _ first
-    (read_fails g.D.Device a b NeverWorn c.in_err-appended.field-0.0 first.going.stop_is (ap (λ (e : EngineState g.row.D.Denot). e.stop) h.err.rest) h.err.read.device h.cause))
+    (read_fails g.D.Device a b NeverWorn c.in_err-appended.field-0.0 first.going.stop_is (ap (λ (e : EngineState g.row.D.Denot). e.stop) h.err.rest) h.err.read.device h.cause (writes_read g.D.Device a.engine b.engine h.err)))
 
 pub returns-clause-applied : goal.returns-clause-applied
 returns-clause-applied g c = λ s.
@@ -97,5 +98,5 @@ returns-clause-ends g c =
     let b : Volume g.row.D.Denot = record a { engine = c.append-appended.new.self } in
     let h = c.in_ok-appended.ensures in
     let first = went_on g.D.Device c.args.self.now a _ c.in_ok-make_ready.ensures.ends c.in_ok-make_ready.ensures.count_stays in
-    let next = read_goes g.D.Device a b first.going.stop_is (ap (λ (e : EngineState g.row.D.Denot). e.stop) h.only.rest) h.only.keeps.device h.cause.kept refl in
-    ends_logged g.D.Device c.args.self.now b (record { engine = c.log.new.self; count = a.count + 1 }) _ (goes_then g.D.Device c.args.self.now a b first next) (ap (λ (e : EngineState g.row.D.Denot). e.pager) c.log.ensures.log) (ap (λ (e : EngineState g.row.D.Denot). e.stop) c.log.ensures.log)
+    let next = read_goes g.D.Device a b first.going.stop_is (ap (λ (e : EngineState g.row.D.Denot). e.stop) h.only.rest) h.only.keeps.device h.cause.kept refl (writes_nodes g.D.Device a.engine b.engine h.only) in
+    ends_logged g.D.Device c.args.self.now b (record { engine = c.log.new.self; count = a.count + 1 }) _ (goes_then g.D.Device c.args.self.now a b first next) (ap (λ (e : EngineState g.row.D.Denot). e.pager) c.log.ensures.log) (ap (λ (e : EngineState g.row.D.Denot). e.live) c.log.ensures.log) (ap (λ (e : EngineState g.row.D.Denot). e.stop) c.log.ensures.log)

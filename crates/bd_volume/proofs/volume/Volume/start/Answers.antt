@@ -11,11 +11,11 @@ use Rattle.bd_pager.specs.Slots.{IsSpare}
 use Rattle.bd_checkpoint.specs.declared.commands.PlacedCommand.{PlacedCommand}
 use Rattle.bd_checkpoint.specs.Recovering.{FailsFirst}
 use Rattle.bd_volume.specs.declared.volume.Volume.{Volume}
-use Rattle.bd_volume.specs.Faults.{IsStartCause}
-use Rattle.bd_volume.specs.Replays.{ReplaysFront, StopsReplaying}
+use Rattle.bd_volume.specs.Replays.{ReplaysFront, StopsReplaying, ShowsReplay}
 use Rattle.bd_volume.specs.Starts.{OnlyStarts, HasStarted}
+use Rattle.bd_volume.specs.Unstarted.{device_left}
 use Rattle.bd_volume.specs.Volume.{StandsFor, IsFirstView, view_of, device_of, stop_of}
-use Rattle.bd_volume.proofs.Started.{open_cause, unworn, started_for, without_walk_stands, first_views, replay_cause, replay_undamaged, replay_wears}
+use Rattle.bd_volume.proofs.Started.{open_cause, unworn_as, unworn, replay_shows, started_for, without_walk_stands, first_views, replay_cause, replay_undamaged, replay_wears}
 use Rattle.bd_volume.proofs.Starts.{settles_start, settled_starts, slots_started, replays_start, replays_started}
 use Rattle.bd_volume.proofs.volume.Volume.start.Goals as goal
 
@@ -23,7 +23,7 @@ pub returns-in_err-engine-clause-cause : goal.returns-in_err-engine-clause-cause
 returns-in_err-engine-clause-cause g c =
     let p = err_from_is_err_and c.from_residual.result c.from_residual.ensures.1 in
     let r = c.in_err-engine.field-0.0 in
-    rw p.1 (open_cause g.D.Device c.args.device r.device p.0.device r.fault p.0.fault p.2.0 p.2.1 c.in_err-engine.ensures.cause)
+    rw p.1 (open_cause g.D.Device c.args.device r.device (device_left p.0) r.fault p.0.fault p.2.0 p.2.1 c.in_err-engine.ensures.cause)
 
 pub returns-in_err-engine-clause-wears : goal.returns-in_err-engine-clause-wears
 returns-in_err-engine-clause-wears g c = λ t n.
@@ -76,7 +76,7 @@ returns-in-Ok-clause-only g c =
     let e = c.in_ok-engine.ensures in
     let a : Volume g.row.D.Denot = record { engine = c.in_ok-engine.field-0.engine; count = c.saved_count-count.result } in
     subst (λ (w : Volume g.row.D.Denot). OnlyStarts g.D.Device c.args.device (device_of w)) (sym c.forget_walk.ensures)
-    (replays_start g.D.Device c.args.device a c.replay.new.self _ e.reads e.only c.in-Ok.ensures.writes)
+    (replays_start g.D.Device c.args.device a c.replay.new.self _ e.reads e.only e.stored c.in-Ok.ensures.writes)
 
 pub returns-in-Ok-clause-slots : goal.returns-in-Ok-clause-slots
 returns-in-Ok-clause-slots g c =
@@ -97,8 +97,7 @@ returns-clause-cause g c =
     let e = c.in_ok-engine.ensures in
     let h = c.in-Err.ensures in
     let a : Volume g.row.D.Denot = record { engine = c.in_ok-engine.field-0.engine; count = c.saved_count-count.result } in
-    subst (λ (d : g.row.D.Denot). IsStartCause g.D.Device c.args.device d c.in-Err.fault) (sym c.into_device.ensures)
-    (replay_cause g.D.Device c.args.device a c.replay.new.self e.fresh c.in_ok-engine.field-0.commands.items c.in-Err.fault c.log_records_are_prefix_free.ensures e.reads.kept e.known e.stored e.placed e.each e.faults (subst (λ (l : List PlacedCommand). StopsReplaying g.D.Device c.in-Err.fault l a) c.deref.ensures.value h.fails) h.cause.failed)
+    replay_cause g.D.Device c.args.device a c.replay.new.self e.fresh c.in_ok-engine.field-0.commands.items c.in-Err.fault c.log_records_are_prefix_free.ensures e.reads.kept e.known e.stored e.placed e.each e.faults (subst (λ (l : List PlacedCommand). StopsReplaying g.D.Device c.in-Err.fault l a) c.deref.ensures.value h.fails) h.cause.failed
 
 pub returns-clause-undamaged : goal.returns-clause-undamaged
 returns-clause-undamaged g c = λ t n stands block.
@@ -111,16 +110,26 @@ returns-clause-wears g c = λ t n.
     let a : Volume g.row.D.Denot = record { engine = c.in_ok-engine.field-0.engine; count = c.saved_count-count.result } in
     replay_wears g.D.Device (g.D.Device.contents c.args.device) a e.fresh c.in_ok-engine.field-0.commands.items c.in-Err.fault t n c.saved_count-count.ensures e.placed (e.first t n) (e.replay t n) (subst (λ (l : List PlacedCommand). StopsReplaying g.D.Device c.in-Err.fault l a) c.deref.ensures.value c.in-Err.ensures.fails)
 
+pub returns-in_err-engine-clause-shows : goal.returns-in_err-engine-clause-shows
+returns-in_err-engine-clause-shows g c =
+    let p = err_from_is_err_and c.from_residual.result c.from_residual.ensures.1 in
+    rw p.1 (λ which is. unworn_as c.in_err-engine.field-0.0.fault p.0.fault which p.2.0 is)
+
+pub returns-clause-shows : goal.returns-clause-shows
+returns-clause-shows g c = λ which is.
+    let e = c.in_ok-engine.ensures in
+    let a : Volume g.row.D.Denot = record { engine = c.in_ok-engine.field-0.engine; count = c.saved_count-count.result } in
+    replay_shows g.D.Device (g.D.Device.contents c.args.device) a c.replay.new.self c.in_ok-engine.field-0.commands.items c.in-Err.fault which c.saved_count-count.ensures e.flushes e.placed c.in-Err.ensures.writes.early.live
+    (subst (λ (l : List PlacedCommand). ShowsReplay g.D.Device c.in-Err.fault l a c.replay.new.self) c.deref.ensures.value c.in-Err.ensures.shows) is
+
 pub returns-clause-left : goal.returns-clause-left
 returns-clause-left g c =
     let e = c.in_ok-engine.ensures in
     let a : Volume g.row.D.Denot = record { engine = c.in_ok-engine.field-0.engine; count = c.saved_count-count.result } in
-    subst (λ (d : g.row.D.Denot). OnlyStarts g.D.Device c.args.device d) (sym c.into_device.ensures)
-    (replays_start g.D.Device c.args.device a c.replay.new.self _ e.reads e.only c.in-Err.ensures.writes)
+    replays_start g.D.Device c.args.device a c.replay.new.self _ e.reads e.only e.stored c.in-Err.ensures.writes
 
 pub returns-clause-starts : goal.returns-clause-starts
 returns-clause-starts g c = λ some calm t n stands.
     let e = c.in_ok-engine.ensures in
     let a : Volume g.row.D.Denot = record { engine = c.in_ok-engine.field-0.engine; count = c.saved_count-count.result } in
-    subst (λ (d : g.row.D.Denot). HasStarted g.D.Device c.args.device d t n) (sym c.into_device.ensures)
-    (replays_started g.D.Device c.args.device a c.replay.new.self _ t n e.reads e.only e.settled c.in-Err.ensures.writes stands)
+    replays_started g.D.Device c.args.device a c.replay.new.self _ t n e.reads e.only e.settled c.in-Err.ensures.writes stands
