@@ -11,7 +11,7 @@ use Rattle.bd_view.specs.Moves.{Saves}
 use Rattle.bd_view.specs.Reclaiming.{IsReclaim}
 use Rattle.bd_shell.specs.declared.outcome.Ack.{Ack}
 use Rattle.bd_shell.specs.Transcript.{State, Entry, Answers, Serves, FillsCheckpoint, FillsReclaim, Follows, IsTranscript, ack, state_after, synced_state}
-use Rattle.bd_calls.specs.Run.{AreInOrder}
+use Rattle.bd_calls.specs.Work.{AreInOrder}
 
 -- ---- lists of acknowledgements
 

@@ -23,7 +23,7 @@ use Rattle.bd_volume.specs.Volume.{IsSafe, StandsFor, view_of, device_of, stop_o
 use Rattle.bd_volume.specs.declared.volume.Volume.{Volume}
 use Rattle.bd_shell.specs.Transcript.{State, Entry, Follows, IsTranscript, executed, exchanges_of, state_after}
 use Rattle.bd_shell.specs.Session.{closed}
-use Rattle.bd_calls.specs.Run.{Shows}
+use Rattle.bd_calls.specs.Work.{Shows}
 
 -- ---- nothing waits
 

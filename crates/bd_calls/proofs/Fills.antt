@@ -30,16 +30,17 @@ use Rattle.bd_shell.specs.declared.fault.Fault.TheVariants.{Device, Damaged, Sou
 use Rattle.bd_shell.specs.declared.outcome.Ack.{Ack}
 use Rattle.bd_shell.specs.Fault.{status_of, fault_line, Faults, faults, Caused, IsCaused}
 use Rattle.bd_shell.specs.Transcript.{State, Exchange, IsAnswered, text, executed, lines_to_run}
-use Rattle.bd_shell.specs.Session.{Among, IsAtLine, Replied, TakenAt, end_of}
+use Rattle.bd_shell.specs.Session.{Among, IsAtLine, Replied, TakenAt, end_of, has_stop}
 use Rattle.bd_calls.specs.Fill.{CanEndLines, EndsLines, TellsSummary, WritesSome, cut_status, named, result_named, said_in}
-use Rattle.bd_calls.specs.Run.{Disk, Ends, ends, apart, Ran, RanGenerated, Transcribed, IsLast, IsTold, HasBegun, HasNotStarted, WritesEnd, WritesLast, HasStart, IsFaultless, IsDetached, Seen, end_status}
+use Rattle.bd_calls.specs.Work.{Disk, Closing, AllDurable, IsLast, IsTold, HasBegun, HasNotStarted, Transcribed, Worked}
+use Rattle.bd_calls.specs.Run.{Ends, ends, apart, IsOfScript, Ran, RanGenerated, WritesEnd, WritesLast, HasStart, IsFaultless, IsDetached, Seen, end_status}
 use Rattle.bd_calls.proofs.Runs.{run_complete}
 
 -- ---- want of memory by its own name
 
-last_named : (settled : ℕ) (xs : List Exchange) (taken : List ℕ) (script : Option (List ℕ)) (acks : List Ack) (image : Image) (before now : Disk) (s : State)
-    → IsLast settled (Some Source) xs taken script acks image before now s → IsLast settled (Some Memory) xs taken script acks image before now s
-last_named settled xs taken script acks image before now s h = record {
+last_named : (settled : ℕ) (how : Closing) (asks : List LineMeaning → Type 0) (xs : List Exchange) (acks : List Ack) (image : Image) (before now : Disk) (s : State)
+    → IsLast settled (Some Source) how asks xs acks image before now s → IsLast settled (Some Memory) how asks xs acks image before now s
+last_named settled how asks xs acks image before now s h = record {
   told = inl (told h.told);
   later = h.later;
   calls = (let same : now.calls ≡ s.calls = h.calls in omega (arith, same));
@@ -47,16 +48,16 @@ last_named settled xs taken script acks image before now s h = record {
   shown = λ none. absurd (impossible none);
 }
   where
-    told : IsTold (Some Source) xs taken script s ⊎ HasNotStarted (Some Source) xs image → IsTold (Some Memory) xs taken script s
-    told (inl t) = record { told = t.told; told_script = t.told_script }
+    told : IsTold (Some Source) asks xs s ⊎ HasNotStarted (Some Source) xs image → IsTold (Some Memory) asks xs s
+    told (inl t) = record { told = t.told }
     told (inr unstarted) = absurd unstarted.why
 
     impossible : Some Memory ≡ None → ⊥
     impossible e = cc
 
-transcribed_named : (settled : ℕ) (t : Tree) (n : ℕ) (image : Image) (xs : List Exchange) (taken : List ℕ) (script : Option (List ℕ)) (acks : List Ack) (before now : Disk)
-    → Transcribed settled t n image (Some Source) xs taken script acks before now → Transcribed settled t n image (Some Memory) xs taken script acks before now
-transcribed_named settled t n image xs taken script acks before now h = record {
+transcribed_named : (settled : ℕ) (t : Tree) (n : ℕ) (image : Image) (how : Closing) (asks : List LineMeaning → Type 0) (xs : List Exchange) (acks : List Ack) (before now : Disk)
+    → Transcribed settled t n image (Some Source) how asks xs acks before now → Transcribed settled t n image (Some Memory) how asks xs acks before now
+transcribed_named settled t n image how asks xs acks before now h = record {
   first = h.first;
   calls = h.calls;
   begun = inl (begun h.begun);
@@ -64,7 +65,7 @@ transcribed_named settled t n image xs taken script acks before now h = record {
     entries = h.run.entries;
     exchanges_are = h.run.exchanges_are;
     transcript = h.run.transcript;
-    reached = last_named settled xs taken script acks image before now _ h.run.reached;
+    reached = last_named settled how asks xs acks image before now _ h.run.reached;
   };
 }
   where
@@ -72,25 +73,34 @@ transcribed_named settled t n image xs taken script acks before now h = record {
     begun (inl view) = view
     begun (inr unstarted) = absurd unstarted.why
 
+worked_named : (settled : ℕ) (how : Closing) (asks : List LineMeaning → Type 0) (xs : List Exchange) (acks : List Ack) (before now : Disk)
+    → Worked settled (Some Source) how asks xs acks before now → Worked settled (Some Memory) how asks xs acks before now
+worked_named settled how asks xs acks before now h = record {
+  answered = h.answered;
+  asked = h.asked;
+  acked = h.acked;
+  damage = tt;
+  transcribed = λ t n image is stands. transcribed_named settled t n image how asks xs acks before now (h.transcribed t n image is stands);
+}
+
 source_named : (settled : ℕ) (acks : List Ack) (before now : Ends) → Ran settled (Some Source) acks before now → Ran settled (Some Memory) acks before now
 source_named settled acks before now h = record {
   exchanges = h.exchanges;
-  answered = h.answered;
-  front = h.front;
-  final = h.final;
-  taken = h.taken;
-  taken_is = h.taken_is;
-  script_is = h.script_is;
-  took = h.took;
-  begins = h.begins;
-  among_taken = h.among_taken;
-  among_script = h.among_script;
-  taken_at = h.taken_at.0;
-  read_out = tt;
-  acked = h.acked;
-  replied = h.replied;
-  damage = tt;
-  transcribed = λ t n image is stands. transcribed_named settled t n image h.exchanges h.taken before.script acks before.disk now.disk (h.transcribed t n image is stands);
+  fed = record {
+    front = h.fed.front;
+    final = h.fed.final;
+    taken = h.fed.taken;
+    taken_is = h.fed.taken_is;
+    script_is = h.fed.script_is;
+    took = h.fed.took;
+    begins = h.fed.begins;
+    among_taken = h.fed.among_taken;
+    among_script = h.fed.among_script;
+    taken_at = h.fed.taken_at.0;
+    read_out = tt;
+    replied = h.fed.replied;
+  };
+  worked = worked_named settled (AllDurable (has_stop h.exchanges)) (IsOfScript h.fed.taken before.script) h.exchanges acks before.disk now.disk h.worked;
 }
 
 -- ---- the summary that is written
@@ -140,8 +150,8 @@ tells_cut (Some e) status said old new before now can is (inr part) rose =
     longer : 0 < length (part.0 ++ fault_line e)
     longer = omega (arith, length-append part.0 (fault_line e), part.1)
 
-pub rose_of_sink : (before now : ℕ) (e : Fault) → e ≡ Sink → Caused e (faults 0 0 before) (faults 0 0 now) → Rose before now
-rose_of_sink before now e is h = let k : Caused Sink (faults 0 0 before) (faults 0 0 now) = subst (λ e. Caused e (faults 0 0 before) (faults 0 0 now)) is h in k.0
+pub rose_of_sink : (before now : ℕ) (last : Bool) (e : Fault) → e ≡ Sink → Caused e (faults 0 0 before) (faults 0 0 now) last → Rose before now
+rose_of_sink before now last e is h = let k : Caused Sink (faults 0 0 before) (faults 0 0 now) last = subst (λ e. Caused e (faults 0 0 before) (faults 0 0 now) last) is h in k.0
 
 -- what is said is the line of a count
 pub said_whole : (line said : List ℕ) (old new : Option (List ℕ)) → line ≡ said → new ≡ append_known old line → new ≡ append_known old said
@@ -291,25 +301,7 @@ summed xs w is answered short =
 -- the counts of faults tell nothing of the lines
 other_faults : (settled : ℕ) (end : Option Fault) (acks : List Ack) (before now : Disk) (s s' w w' : Option (List ℕ)) (t t' : Option Takes) (f f' g g' : Faults)
     → Ran settled end acks (ends before s t w f) (ends now s' t' w' f') → Ran settled end acks (ends before s t w g) (ends now s' t' w' g')
-other_faults settled end acks before now s s' w w' t t' f f' g g' h = record {
-  exchanges = h.exchanges;
-  answered = h.answered;
-  front = h.front;
-  final = h.final;
-  taken = h.taken;
-  taken_is = h.taken_is;
-  script_is = h.script_is;
-  took = h.took;
-  begins = h.begins;
-  among_taken = h.among_taken;
-  among_script = h.among_script;
-  taken_at = h.taken_at;
-  read_out = h.read_out;
-  acked = h.acked;
-  replied = h.replied;
-  damage = h.damage;
-  transcribed = h.transcribed;
-}
+other_faults settled end acks before now s s' w w' t t' f f' g g' h = record { exchanges = h.exchanges; fed = h.fed; worked = h.worked }
 
 ran_named : {T : Type 0} (r : Result T Fault) (settled : ℕ) (acks : List Ack) (before now : Ends) → Ran settled (end_of r) acks before now
     → Ran settled (end_of (result_named r)) acks before now
@@ -351,7 +343,8 @@ ran_generated r seed count acks before now left s w w' f f' s_is w_is can h =
       replies = Some w';
       ran = ran_named r _ acks _ _ g;
       kind = can;
-      said_is = summed g.exchanges w' (written_all r g.front g.taken g.exchanges w' can g.replied) g.answered (run_short (end_of r) g.taken g.exchanges g.among_taken g.taken_at)
+      said_is = summed g.exchanges w' (written_all r g.fed.front g.fed.taken g.exchanges w' can g.fed.replied) g.worked.answered
+          (run_short (end_of r) g.fed.taken g.exchanges g.fed.among_taken g.fed.taken_at)
           ∙ ap (λ xs. summary (said_in xs)) (sym (same_exchanges r _ acks _ _ g));
     }
 
@@ -371,21 +364,21 @@ not_too_long script taken (Some more) short is long = omega (arith, length-appen
     some_list : (a b : List ℕ) → Some a ≡ Some b → a ≡ b
     some_list a b e = cc
 
-pub can_end : {T : Type 0} (r : Result T Fault) (settled : ℕ) (acks : List Ack) (before now : Disk) (script : List ℕ) (left w w' : Option (List ℕ)) (d d' s s' : ℕ) (f f' : Faults)
+pub can_end : {T : Type 0} (r : Result T Fault) (settled : ℕ) (acks : List Ack) (before now : Disk) (script : List ℕ) (left w w' : Option (List ℕ)) (d d' s s' : ℕ) (last : Bool) (f f' : Faults)
     → length script ≤ script_limit → Ran settled (end_of r) acks (ends before (Some script) None w f) (ends now left None w' f')
-    → IsCaused (faults d s 0) (faults d' s' 0) r → CanEndLines (end_of (result_named r))
-can_end (Ok x) settled acks before now script left w w' d d' s s' f f' short h cause = tt
-can_end (Err Device) settled acks before now script left w w' d d' s s' f f' short h cause = tt
-can_end (Err (Damaged block)) settled acks before now script left w w' d d' s s' f f' short h cause = tt
-can_end (Err Source) settled acks before now script left w w' d d' s s' f f' short h cause = tt
-can_end (Err Memory) settled acks before now script left w w' d d' s s' f f' short h cause = tt
-can_end (Err TooLong) settled acks before now script left w w' d d' s s' f f' short h cause = absurd (not_too_long script h.taken left short h.script_is h.taken_at.0)
-can_end (Err (Worn which)) settled acks before now script left w w' d d' s s' f f' short h cause = tt
-can_end (Err Sink) settled acks before now script left w w' d d' s s' f f' short h cause = absurd (no_rise cause.cause.0)
+    → IsCaused (faults d s 0) (faults d' s' 0) last r → CanEndLines (end_of (result_named r))
+can_end (Ok x) settled acks before now script left w w' d d' s s' last f f' short h cause = tt
+can_end (Err Device) settled acks before now script left w w' d d' s s' last f f' short h cause = tt
+can_end (Err (Damaged block)) settled acks before now script left w w' d d' s s' last f f' short h cause = tt
+can_end (Err Source) settled acks before now script left w w' d d' s s' last f f' short h cause = tt
+can_end (Err Memory) settled acks before now script left w w' d d' s s' last f f' short h cause = tt
+can_end (Err TooLong) settled acks before now script left w w' d d' s s' last f f' short h cause = absurd (not_too_long script h.fed.taken left short h.fed.script_is h.fed.taken_at.0)
+can_end (Err (Worn which)) settled acks before now script left w w' d d' s s' last f f' short h cause = tt
+can_end (Err Sink) settled acks before now script left w w' d d' s s' last f f' short h cause = absurd (no_rise cause.cause.0)
 
-pub cause_named : {T : Type 0} (r : Result T Fault) (d d' s s' : ℕ) → IsCaused (faults d s 0) (faults d' s' 0) r
-    → (k : ℕ) → IsCaused (faults d 0 k) (faults d' 0 k) (result_named r)
-cause_named r d d' s s' h k = record {
+pub cause_named : {T : Type 0} (r : Result T Fault) (d d' s s' : ℕ) (last : Bool) → IsCaused (faults d s 0) (faults d' s' 0) last r
+    → (k : ℕ) → IsCaused (faults d 0 k) (faults d' 0 k) last (result_named r)
+cause_named r d d' s s' last h k = record {
   later = record { device = h.later.device; source = omega arith; sink = omega arith };
   kept = kept r h.kept;
   cause = cause r h.cause;
@@ -398,9 +391,9 @@ cause_named r d d' s s' h k = record {
     kept (Ok x) h = apart_from (faults d' s' 0) (faults d s 0) h
     kept (Err e) h = tt
 
-    cause : {T : Type 0} (r : Result T Fault) → IfErr r (λ e. Caused e (faults d s 0) (faults d' s' 0)) → IfErr (result_named r) (λ e. Caused e (faults d 0 k) (faults d' 0 k))
+    cause : {T : Type 0} (r : Result T Fault) → IfErr r (λ e. Caused e (faults d s 0) (faults d' s' 0) last) → IfErr (result_named r) (λ e. Caused e (faults d 0 k) (faults d' 0 k) last)
     cause (Ok x) h = tt
-    cause (Err Device) h = (h.0, refl)
+    cause (Err Device) h = (h.0, h.1, refl)
     cause (Err (Damaged block)) h = apart_from (faults d' s' 0) (faults d s 0) h
     cause (Err Source) h = apart_from (faults d' s' 0) (faults d s' 0) h.1
     cause (Err Memory) h = apart_from (faults d' s' 0) (faults d s 0) h
@@ -413,12 +406,12 @@ pub fill_short : (seed count : ℕ) → count ≤ fill_limit → length (generat
 fill_short seed count few = omega (arith, script_short seed count)
 
 -- so it is of the generated script
-pub can_fill : {T : Type 0} (r : Result T Fault) (seed count settled : ℕ) (acks : List Ack) (before now : Disk) (script : List ℕ) (left w w' : Option (List ℕ)) (d d' s s' : ℕ)
+pub can_fill : {T : Type 0} (r : Result T Fault) (seed count settled : ℕ) (acks : List Ack) (before now : Disk) (script : List ℕ) (left w w' : Option (List ℕ)) (d d' s s' : ℕ) (last : Bool)
     (f f' : Faults) → script ≡ generated_script seed count → count ≤ fill_limit
     → Ran settled (end_of r) acks (ends before (Some script) None w f) (ends now left None w' f')
-    → IsCaused (faults d s 0) (faults d' s' 0) r → CanEndLines (end_of (result_named r))
-can_fill r seed count settled acks before now script left w w' d d' s s' f f' is few h cause =
-    can_end r settled acks before now script left w w' d d' s s' f f' (omega (arith, ap length is, fill_short seed count few)) h cause
+    → IsCaused (faults d s 0) (faults d' s' 0) last r → CanEndLines (end_of (result_named r))
+can_fill r seed count settled acks before now script left w w' d d' s s' last f f' is few h cause =
+    can_end r settled acks before now script left w w' d d' s s' last f f' (omega (arith, ap length is, fill_short seed count few)) h cause
 
 pub fill_attached : {T P B C S U : Type 0} (r : Result T Fault) → P ⊎ ((r ≡ Err Device) × B × C × S × U) → P ⊎ ((result_named r ≡ Err Device) × B × C × S)
 fill_attached r (inl named) = inl named
@@ -433,14 +426,14 @@ done_named (Err e) P h = tt
 no_rose : ¬ Rose 0 0
 no_rose h = no_rise h
 
-pub fill_complete : {T : Type 0} (r : Result T Fault) (status seed count : ℕ) (acks : List Ack) (said : List ℕ) (before now : Disk) (d d' s s' k k' : ℕ) (old new : Option (List ℕ))
+pub fill_complete : {T : Type 0} (r : Result T Fault) (status seed count : ℕ) (acks : List Ack) (said : List ℕ) (before now : Disk) (d d' s s' k k' : ℕ) (last : Bool) (old new : Option (List ℕ))
     → length (generated_script seed count) ≤ script_limit
-    → RanGenerated seed count (end_of r) acks said before now → IsCaused (faults d 0 0) (faults d' 0 0) r
+    → RanGenerated seed count (end_of r) acks said before now → IsCaused (faults d 0 0) (faults d' 0 0) last r
     → TellsSummary (end_of r) status said old new k k' → IsSomeAnd before.image HasStart → IsFaultless (faults d s k) (faults d' s' k')
     → (status ≡ 0) ⊎ (status ≡ 6) ⊎ (status ≡ 8)
-fill_complete r status seed count acks said before now d d' s s' k k' old new short g cause told ready f =
+fill_complete r status seed count acks said before now d d' s s' k k' last old new short g cause told ready f =
     as_told r told
-    (run_complete r (before.calls + 2) (end_status (end_of r)) acks _ _ (faults d 0 0) (faults d' 0 0) 0 refl g.ran cause (omega arith) (ready, short)
+    (run_complete r (before.calls + 2) (end_status (end_of r)) acks _ _ (faults d 0 0) (faults d' 0 0) 0 last refl g.ran cause (omega arith) (ready, short)
     (record { device = f.device; source = no_rose; sink = no_rose }))
   where
     as_told : {T : Type 0} (r : Result T Fault) → TellsSummary (end_of r) status said old new k k' → (end_status (end_of r) ≡ 0) ⊎ (end_status (end_of r) ≡ 6) ⊎ (end_status (end_of r) ≡ 8)

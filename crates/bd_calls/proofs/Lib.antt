@@ -5,3 +5,4 @@ pub mod Walks
 pub mod Acks
 pub mod Fills
 pub mod Unread
+pub mod Offered

@@ -1,6 +1,6 @@
 -- How a whole run begins and ends.
-use Rattle.std.proofs.Common.{◌≡◌, ◌⊎◌, ◌≢◌, ◌↔◌, ℕ, ◌+◌, ◌^◌, ◌<◌, ◌≤◌, Bool, true, false, List, [], ◌∷◌, ◌++◌, length, refl, sym, ap, subst, ◌∙◌, arith, inl, inr, length-append}
-use Rattle.std.specs.Prelude.{map, is_err, IfSome, IsSomeAnd, OnOk}
+use Rattle.std.proofs.Common.{◌≡◌, ◌⊎◌, ◌≢◌, ◌↔◌, ℕ, ◌+◌, ◌-◌, ◌^◌, ◌<◌, ◌≤◌, Bool, true, false, List, [], ◌∷◌, ◌++◌, length, refl, sym, ap, subst, ◌∙◌, arith, inl, inr, length-append}
+use Rattle.std.specs.Prelude.{map, is_err, IfSome, IsSomeAnd, OnOk, ⊤}
 use Rattle.std.specs.List.{AllByRecursion, Contains}
 use Rattle.std.specs.declared.result.Result.{Result}
 use Rattle.std.specs.declared.result.Result.TheVariants.{Ok, Err}
@@ -24,7 +24,7 @@ use Rattle.bd_checkpoint.specs.Kept.{AllStandFor}
 use Rattle.bd_checkpoint.specs.Recovering.{IsBadIn}
 use Rattle.bd_view.specs.Views.{View, fresh_view}
 use Rattle.bd_engine.specs.Stored.{HasSaved}
-use Rattle.bd_script.specs.Lines.{line_of, lines_of}
+use Rattle.bd_script.specs.Lines.{LineMeaning, line_of, lines_of}
 use Rattle.bd_volume.specs.Faults.{IsStartCause}
 use Rattle.bd_volume.specs.Starts.{OnlyStarts}
 use Rattle.bd_volume.specs.Volume.{IsFirstView}
@@ -36,11 +36,12 @@ use Rattle.bd_shell.specs.declared.fault.Fault.TheVariants.{Device, Damaged, Sou
 use Rattle.bd_shell.specs.declared.outcome.Ack.{Ack}
 use Rattle.bd_shell.specs.declared.shell.Shell.{Shell}
 use Rattle.bd_shell.specs.Fault.{status_of, Faults, faults, IsStartFault, Caused, IsCaused}
-use Rattle.bd_shell.specs.Transcript.{State, point, state_at, synced_state, with_view, Exchange, Entry, IsTranscript, HasAcked, durable, executed, exchanges_of, output, state_after, lines_to_run}
+use Rattle.bd_shell.specs.Transcript.{State, point, state_at, synced_state, with_view, Exchange, Entry, IsAnswered, IsTranscript, HasAcked, HasTranscript, durable, executed, exchanges_of, output, state_after, lines_to_run}
 use Rattle.bd_shell.specs.Crashes.{IsAtPoint, IsAcked, IsSafeSince}
-use Rattle.bd_shell.specs.Session.{end_of, acks_at_end, has_stop, closed, ClosedAt, Among, TakenAt, Replied, Ends as EndsBy, Session}
+use Rattle.bd_shell.specs.Session.{end_of, acks_at_end, has_stop, closed, ClosedAt, Among, TakenAt, Replied, Tells, Ends as EndsBy, EndsIn, Session}
 use Rattle.bd_shell.specs.Shell.{CanStart, MayStart, ShellAt, IsLineFault, NamesBad, view_in, acks_in, device_in, stop_in}
-use Rattle.bd_calls.specs.Run.{Disk, disk, Ends, ends, end_status, WritesEnd, IsTold, CallsAtEnd, HasBegun, HasNotStarted, KeepsFromStarting, IsUnopened, Survives, Shows, NamesDamage, Ran, HasStart, IsFaultless}
+use Rattle.bd_calls.specs.Work.{Disk, disk, Closing, AllDurable, LeftWaiting, adds_none, IsTold, CallsAtEnd, HasBegun, HasNotStarted, KeepsFromStarting, IsUnopened, Survives, Shows, ShowsAll, NamesDamage, Worked}
+use Rattle.bd_calls.specs.Run.{Ends, ends, end_status, WritesEnd, IsOfScript, Ran, HasStart, IsFaultless}
 use Rattle.bd_shell.proofs.Executes.{append_known-nil}
 use Rattle.bd_shell.proofs.Scripts.{prepend_known-nil, took_none}
 use Rattle.bd_shell.proofs.Surviving.{since_begun}
@@ -96,7 +97,7 @@ ok_of_none (Err e) P is h = cc
 
 -- what is told of a device
 abbrev pub disk_of : {D : Type 0} → Ghosts D → D → Disk
-disk_of g d = disk (g.contents d) (g.call_count d) (g.left_since d) (g.write_fault_count d)
+disk_of g d = disk (g.contents d) (g.call_count d) (g.left_since d) (g.write_fault_count d) (g.last_failed d)
 
 -- what was acknowledged holds whatever the view is and however many calls there were
 acked_view : (u : State) (view : View) (calls now : ℕ) (left : ℕ → Image → Type 0) (acks : List Ack) → AllByRecursion (IsAcked (with_view u view calls) now left) acks
@@ -127,6 +128,25 @@ record IsEnded {D : Type 0} (g : Ghosts D) (end : Option Fault) (first : D) (sin
   safe : IsSafeSince g first since now acks (with_view x view calls)
   later : u.calls ≤ g.call_count now
   called : CallsAtEnd end x.calls (g.call_count now)
+
+-- nothing waits where all was made durable
+abbrev pub IsIdle : Closing → State → Type 0
+IsIdle (AllDurable stopped) s = s.view.waiting ≡ 0
+IsIdle LeftWaiting s = ⊤
+
+-- how a work on a volume ends: what is told of the state after its last line, and of that at the end
+pub record EndsWork {D : Type 0} (g : Ghosts D) (end : Option Fault) (how : Closing) (asks : List LineMeaning → Type 0) (xs : List Exchange) (first : D) (since : ℕ) (after : Shell D) (u : State)
+    : Type 0 where
+  pub told : IsTold end asks xs u
+  pub reached : EndsBy end u (ClosedAt end (ShellAt g first since after) (adds_none how))
+  pub idle : end ≡ None → IsIdle how (closed end (adds_none how) (g.call_count (device_in after)) u)
+
+-- what is told by the lines of what was taken, and by those of the script
+tells_script : (end : Option Fault) (u : State) (done lines : List LineMeaning) (taken : List ℕ) (script : Option (List ℕ)) → Tells end u done (lines_to_run taken)
+    → IfSome script (λ bytes. Tells end u done (lines_to_run bytes)) → IsOfScript taken script lines → Tells end u done lines
+tells_script end u done lines taken script by_taken by_script (inl is) = subst (Tells end u done) (sym is) by_taken
+tells_script end u done lines taken None by_taken by_script (inr never) = absurd never
+tells_script end u done lines taken (Some bytes) by_taken by_script (inr is) = subst (Tells end u done) (sym is) by_script
 
 module _ {D : Type 0} (g : Ghosts D) where
   closed_at : (stopped : Bool) (u : State) (first : D) (since : ℕ) (shell : Shell D) → ClosedAt None (ShellAt g first since shell) stopped u
@@ -193,6 +213,67 @@ module _ {D : Type 0} (g : Ghosts D) where
       (settled_all g _ x.tree x.count at.at.stands going (ap (λ (v : View). v.waiting) at.at.view_is ∙ idle)) among saved
   shown_last (Some e) stopped u first since shell none h idle going among saved = cc
 
+  shown_closed : (end : Option Fault) (how : Closing) (u : State) (first : D) (since : ℕ) (shell : Shell D) → end ≡ None
+      → EndsBy end u (ClosedAt end (ShellAt g first since shell) (adds_none how)) → IsIdle how (closed end (adds_none how) (g.call_count (device_in shell)) u)
+      → stop_in shell ≡ None → IfSome (g.contents (device_in shell)) (left_now g (device_in shell)) → IfSome (g.contents (device_in shell)) (HasSaved (view_in g shell))
+      → ShowsAll how (g.contents (device_in shell)) (closed end (adds_none how) (g.call_count (device_in shell)) u)
+  shown_closed end (AllDurable stopped) u first since shell none h idle going among saved = shown_last end stopped u first since shell none h idle going among saved
+  shown_closed end LeftWaiting u first since shell none h idle going among saved = tt
+
+  -- a work on a volume that started
+  pub worked_on : (end : Option Fault) (how : Closing) (asks : List LineMeaning → Type 0) (xs : List Exchange) (old : D) (before after : Shell D) → AllByRecursion IsAnswered xs
+      → ((lines : List LineMeaning) × asks lines) → HasAcked (durable (executed xs) + acks_at_end end (adds_none how)) (acks_in before) (acks_in after)
+      → ((x : State) → ShellAt g (device_in before) (g.call_count old + 1) before x → HasTranscript x xs (EndsWork g end how asks xs (device_in before) (g.call_count old + 1) after))
+      → acks_in before ≡ []
+      → ((t : Tree) (n : ℕ) → CanStart t n (g.contents old)
+      → ShellAt g (device_in before) (g.call_count old + 1) before (state_at t n (view_in g before) (g.call_count (device_in before))))
+      → ((t : Tree) (n : ℕ) → IfSome (g.contents old) (λ image. ImageStandsFor t n image → IsFirstView image (view_in g before)))
+      → OnlyStarts g old (device_in before) → (end ≡ None → stop_in after ≡ None)
+      → (stop_in after ≡ None → IfSome (g.contents (device_in after)) (HasSaved (view_in g after)))
+      → (0 < g.block_count (device_in after) → IfSome (g.contents (device_in after)) (left_now g (device_in after)))
+      → IfSome (g.contents old) (HasBlocks (g.block_count old)) → g.block_count (device_in after) ≡ g.block_count old
+      → NamesDamage end xs (g.contents old) (g.contents (device_in after))
+      → Worked (g.call_count old + 1) end how asks xs (acks_in after) (disk_of g old) (disk_of g (device_in after))
+  worked_on end how asks xs old before after answered asked acked runs none_before begins views only going saved may_stay shape same_size damage = record {
+    answered = answered;
+    asked = asked;
+    acked = acks_counted (durable (executed xs) + acks_at_end end (adds_none how)) (acks_in before) (acks_in after) none_before acked;
+    damage = damage;
+    transcribed = λ t n image is stands.
+        let x0 : State = state_at t n (view_in g before) (g.call_count (device_in before)) in
+        let start : CanStart t n (g.contents old) = can_start t n (g.contents old) image is stands in
+        let h = runs x0 (begins t n start) in
+        let u : State = state_after x0 h.entries in
+        let calls : ℕ = g.call_count (device_in after) in
+        let x : State = closed end (adds_none how) calls u in
+        let ended : IsEnded g end (device_in before) (g.call_count old + 1) (device_in after) (acks_in after) u x =
+        ended_safe end (adds_none how) u (device_in before) (g.call_count old + 1) after h.reached.reached in
+        let passed : Contains x.passed (point t n) =
+        closed_passed end (adds_none how) calls x0 h.entries h.transcript (point t n) (Contains-push [] (point t n)) in
+        record {
+          first = view_in g before;
+          calls = g.call_count (device_in before);
+          begun = inl (record {
+            view = if_some (λ i. ImageStandsFor t n i → IsFirstView i (view_in g before)) (g.contents old) image is (views t n) stands;
+            opened = (begins t n start).safe.early;
+          });
+          run = record {
+            entries = h.entries;
+            exchanges_are = h.exchanges_are;
+            transcript = h.transcript;
+            reached = record {
+              told = inl h.reached.told;
+              later = ended.later;
+              calls = ended.called;
+              survives = survives (g.call_count old + 1) xs old (device_in before) (device_in after) (acks_in after) x ended.view ended.calls
+                  (within (ImageStandsFor t n) (IsAtPoint x.passed 0) (only.time t n start) (λ c like. at_begun x.passed t n c passed like)) ended.safe;
+              shown = λ none. shown_closed end how u (device_in before) (g.call_count old + 1) after none h.reached.reached (h.reached.idle none) (going none)
+                  (may_stay (omega (arith, same_size, some_blocks t n (g.block_count old) (g.contents old) image is stands shape))) (saved (going none));
+            };
+          };
+        };
+  }
+
   -- a session of a volume that started
   pub ran_session : (end : Option Fault) (old : D) (before after : Shell D) (script rest w1 w2 : Option (List ℕ)) (t1 t2 : Option Takes) (b a : Faults)
       → Session end (ShellAt g (device_in before) (g.call_count old + 1) before) (ClosedAt end (ShellAt g (device_in before) (g.call_count old + 1) after))
@@ -208,55 +289,22 @@ module _ {D : Type 0} (g : Ghosts D) where
       → Ran (g.call_count old + 1) end (acks_in after) (ends (disk_of g old) script t1 w1 b) (ends (disk_of g (device_in after)) rest t2 w2 a)
   ran_session end old before after script rest w1 w2 t1 t2 b a s none_before begins views only going saved may_stay shape same_size damage = record {
     exchanges = s.exchanges;
-    answered = s.answered;
-    front = s.front;
-    final = s.final;
-    taken = s.taken;
-    taken_is = s.taken_is;
-    script_is = s.script_is;
-    took = s.took;
-    begins = s.begins;
-    among_taken = s.among_taken;
-    among_script = s.among_script;
-    taken_at = s.taken_at;
-    read_out = s.read_out;
-    acked = acks_counted (durable (executed s.exchanges) + acks_at_end end (has_stop s.exchanges)) (acks_in before) (acks_in after) none_before s.acked;
-    replied = s.replied;
-    damage = damage s.exchanges;
-    transcribed = λ t n image is stands.
-        let x0 : State = state_at t n (view_in g before) (g.call_count (device_in before)) in
-        let start : CanStart t n (g.contents old) = can_start t n (g.contents old) image is stands in
-        let h = s.runs x0 (begins t n start) in
-        let u : State = state_after x0 h.entries in
-        let calls : ℕ = g.call_count (device_in after) in
-        let x : State = closed end (has_stop s.exchanges) calls u in
-        let ended : IsEnded g end (device_in before) (g.call_count old + 1) (device_in after) (acks_in after) u x =
-        ended_safe end (has_stop s.exchanges) u (device_in before) (g.call_count old + 1) after h.reached.reached in
-        let passed : Contains x.passed (point t n) =
-        closed_passed end (has_stop s.exchanges) calls x0 h.entries h.transcript (point t n) (Contains-push [] (point t n)) in
-        record {
-          first = view_in g before;
-          calls = g.call_count (device_in before);
-          begun = inl (record {
-            view = if_some (λ i. ImageStandsFor t n i → IsFirstView i (view_in g before)) (g.contents old) image is (views t n) stands;
-            opened = (begins t n start).safe.early;
-          });
-          run = record {
-            entries = h.entries;
-            exchanges_are = h.exchanges_are;
-            transcript = h.transcript;
-            reached = record {
-              told = inl (record { told = h.reached.told; told_script = h.reached.told_script });
-              later = ended.later;
-              calls = ended.called;
-              survives = survives (g.call_count old + 1) s.exchanges old (device_in before) (device_in after) (acks_in after) x ended.view ended.calls
-                  (within (ImageStandsFor t n) (IsAtPoint x.passed 0) (only.time t n start) (λ c like. at_begun x.passed t n c passed like)) ended.safe;
-              shown = λ none. shown_last end (has_stop s.exchanges) u (device_in before) (g.call_count old + 1) after none h.reached.reached
-                  (idle_at end s.exchanges s.taken calls none s.among_taken x0 h.entries h.transcript h.exchanges_are) (going none)
-                  (may_stay (omega (arith, same_size, some_blocks t n (g.block_count old) (g.contents old) image is stands shape))) (saved (going none));
-            };
-          };
-        };
+    fed = record {
+      front = s.front;
+      final = s.final;
+      taken = s.taken;
+      taken_is = s.taken_is;
+      script_is = s.script_is;
+      took = s.took;
+      begins = s.begins;
+      among_taken = s.among_taken;
+      among_script = s.among_script;
+      taken_at = s.taken_at;
+      read_out = s.read_out;
+      replied = s.replied;
+    };
+    worked = worked_on end (AllDurable (has_stop s.exchanges)) (IsOfScript s.taken script) s.exchanges old before after s.answered (lines_to_run s.taken, inl refl) s.acked
+        (λ x at. by_work x (s.runs x at)) none_before begins views only going saved may_stay shape same_size (damage s.exchanges);
   }
     where
       idle_at : (e : Option Fault) (xs : List Exchange) (taken : List ℕ) (calls : ℕ) → e ≡ None → Among e taken xs → (x0 : State) (es : List Entry) → IsTranscript x0 es
@@ -265,6 +313,22 @@ module _ {D : Type 0} (g : Ghosts D) where
           subst (λ ys. (closed None (has_stop ys) calls (state_after x0 es)).view.waiting ≡ 0) is
           (closed_idle x0 es (map line_of (lines_of taken)) calls transcript (ap executed is ∙ among))
       idle_at (Some e) xs taken calls none among x0 es transcript is = cc
+
+      by_work : (x : State) → HasTranscript x s.exchanges (EndsIn end s.exchanges s.taken script (ClosedAt end (ShellAt g (device_in before) (g.call_count old + 1) after)))
+          → HasTranscript x s.exchanges
+          (EndsWork g end (AllDurable (has_stop s.exchanges)) (IsOfScript s.taken script) s.exchanges (device_in before) (g.call_count old + 1) after)
+      by_work x h = record {
+        entries = h.entries;
+        exchanges_are = h.exchanges_are;
+        transcript = h.transcript;
+        reached = record {
+          told = record {
+            told = λ lines asked. tells_script end (state_after x h.entries) (executed s.exchanges) lines s.taken script h.reached.told h.reached.told_script asked;
+          };
+          reached = h.reached.reached;
+          idle = λ none. idle_at end s.exchanges s.taken (g.call_count (device_in after)) none s.among_taken x h.entries h.transcript h.exchanges_are;
+        };
+      }
 
 -- ---- a volume that didn't start
 
@@ -285,31 +349,19 @@ rose_or_not before now = by (cases_lt before now) (cases_lt (now + 1) (2 ^ 64))
 abbrev pub IsUnmade : ℕ → Disk → Disk → Type 0
 IsUnmade settled before now = (now.calls < settled) ⊎ ((now.calls ≤ settled) × Rose before.write_faults now.write_faults)
 
--- nothing was executed: the volume didn't start
-pub ran_refused : (settled : ℕ) (e : Fault) (before now : Disk) (script w : Option (List ℕ)) (takes : Option Takes) (b a : Faults) → IsLineFault e
+-- nothing was executed, whatever was to be: the volume didn't start
+pub worked_refused : (settled : ℕ) (e : Fault) (how : Closing) (asks : List LineMeaning → Type 0) (before now : Disk) → IsLineFault e → ((lines : List LineMeaning) × asks lines)
     → ((t : Tree) (n : ℕ) (image : Image) → before.image ≡ Some image → ImageStandsFor t n image → (block : ℕ) → e ≡ Damaged block → ⊥)
     → ((t : Tree) (n : ℕ) (image : Image) → before.image ≡ Some image → ImageStandsFor t n image → (which : Counter) → e ≡ Worn which
     → WearsReplaying which image)
     → ((t : Tree) (n : ℕ) (image : Image) → before.image ≡ Some image → ImageStandsFor t n image → Elapses before.calls now.calls before.left now.left (ImageStandsFor t n))
     → ((t : Tree) (n : ℕ) (image : Image) → before.image ≡ Some image → ImageStandsFor t n image → AllStandFor t n (now.left settled) ⊎ IsUnmade settled before now)
     → ((block : ℕ) → e ≡ Damaged block → IsBadIn before.image block)
-    → Ran settled (Some e) [] (ends before script takes w b) (ends now script takes w a)
-ran_refused settled e before now script w takes b a kind sound worn time opened bad = record {
-  exchanges = [];
+    → Worked settled (Some e) how asks [] [] before now
+worked_refused settled e how asks before now kind asked sound worn time opened bad = record {
   answered = tt;
-  front = [];
-  final = [];
-  taken = [];
-  taken_is = refl;
-  script_is = sym (prepend_known-nil script);
-  took = took_none takes;
-  begins = record { rest = []; lines_are = refl; no_stop = refl };
-  among_taken = at_line e [] kind;
-  among_script = all e script kind;
-  taken_at = few e kind;
-  read_out = tt;
+  asked = asked;
   acked = refl;
-  replied = unwritten e kind;
   damage = named e bad;
   transcribed = λ t n i is stands.
       let unstarted : HasNotStarted (Some e) [] i = record { none = refl; why = unstarted_by e i kind (sound t n i is stands) (worn t n i is stands) } in
@@ -351,6 +403,53 @@ ran_refused settled e before now script w takes b a kind sound worn time opened 
     called (Worn which) = omega arith
     called Sink = refl
 
+    named : (f : Fault) → ((block : ℕ) → f ≡ Damaged block → IsBadIn before.image block) → NamesDamage (Some f) [] before.image now.image
+    named Device bad_at = tt
+    named (Damaged block) bad_at = inl (refl, bad_at block refl)
+    named Source bad_at = tt
+    named Memory bad_at = tt
+    named TooLong bad_at = tt
+    named (Worn which) bad_at = tt
+    named Sink bad_at = tt
+
+    unstarted_by : (f : Fault) (i : Image) → IsLineFault f → ((block : ℕ) → f ≡ Damaged block → ⊥) → ((which : Counter) → f ≡ Worn which → WearsReplaying which i)
+        → KeepsFromStarting (Some f) i
+    unstarted_by Device i k sound_at worn = tt
+    unstarted_by (Damaged block) i k sound_at worn = sound_at block refl
+    unstarted_by Source i k sound_at worn = k
+    unstarted_by Memory i k sound_at worn = tt
+    unstarted_by TooLong i k sound_at worn = k
+    unstarted_by (Worn which) i k sound_at worn = worn which refl
+    unstarted_by Sink i k sound_at worn = k
+
+-- no line of a script was executed
+pub ran_refused : (settled : ℕ) (e : Fault) (before now : Disk) (script w : Option (List ℕ)) (takes : Option Takes) (b a : Faults) → IsLineFault e
+    → ((t : Tree) (n : ℕ) (image : Image) → before.image ≡ Some image → ImageStandsFor t n image → (block : ℕ) → e ≡ Damaged block → ⊥)
+    → ((t : Tree) (n : ℕ) (image : Image) → before.image ≡ Some image → ImageStandsFor t n image → (which : Counter) → e ≡ Worn which
+    → WearsReplaying which image)
+    → ((t : Tree) (n : ℕ) (image : Image) → before.image ≡ Some image → ImageStandsFor t n image → Elapses before.calls now.calls before.left now.left (ImageStandsFor t n))
+    → ((t : Tree) (n : ℕ) (image : Image) → before.image ≡ Some image → ImageStandsFor t n image → AllStandFor t n (now.left settled) ⊎ IsUnmade settled before now)
+    → ((block : ℕ) → e ≡ Damaged block → IsBadIn before.image block)
+    → Ran settled (Some e) [] (ends before script takes w b) (ends now script takes w a)
+ran_refused settled e before now script w takes b a kind sound worn time opened bad = record {
+  exchanges = [];
+  fed = record {
+    front = [];
+    final = [];
+    taken = [];
+    taken_is = refl;
+    script_is = sym (prepend_known-nil script);
+    took = took_none takes;
+    begins = record { rest = []; lines_are = refl; no_stop = refl };
+    among_taken = at_line e [] kind;
+    among_script = all e script kind;
+    taken_at = few e kind;
+    read_out = tt;
+    replied = unwritten e kind;
+  };
+  worked = worked_refused settled e (AllDurable (has_stop [])) (IsOfScript [] script) before now kind (lines_to_run [], inl refl) sound worn time opened bad;
+}
+  where
     at_line : (f : Fault) (bs : List ℕ) → IsLineFault f → Among (Some f) bs []
     at_line Device bs k = (lines_to_run bs, refl)
     at_line (Damaged block) bs k = inl refl
@@ -373,15 +472,6 @@ ran_refused settled e before now script w takes b a kind sound worn time opened 
     few (Worn which) k = omega arith
     few Sink k = absurd k
 
-    named : (f : Fault) → ((block : ℕ) → f ≡ Damaged block → IsBadIn before.image block) → NamesDamage (Some f) [] before.image now.image
-    named Device bad_at = tt
-    named (Damaged block) bad_at = inl (refl, bad_at block refl)
-    named Source bad_at = tt
-    named Memory bad_at = tt
-    named TooLong bad_at = tt
-    named (Worn which) bad_at = tt
-    named Sink bad_at = tt
-
     unwritten : (f : Fault) → IsLineFault f → Replied (Some f) [] [] [] w w
     unwritten Device k = sym (append_known-nil w)
     unwritten (Damaged block) k = sym (append_known-nil w)
@@ -390,16 +480,6 @@ ran_refused settled e before now script w takes b a kind sound worn time opened 
     unwritten TooLong k = absurd k
     unwritten (Worn which) k = sym (append_known-nil w)
     unwritten Sink k = absurd k
-
-    unstarted_by : (f : Fault) (i : Image) → IsLineFault f → ((block : ℕ) → f ≡ Damaged block → ⊥) → ((which : Counter) → f ≡ Worn which → WearsReplaying which i)
-        → KeepsFromStarting (Some f) i
-    unstarted_by Device i k sound_at worn = tt
-    unstarted_by (Damaged block) i k sound_at worn = sound_at block refl
-    unstarted_by Source i k sound_at worn = k
-    unstarted_by Memory i k sound_at worn = tt
-    unstarted_by TooLong i k sound_at worn = k
-    unstarted_by (Worn which) i k sound_at worn = worn which refl
-    unstarted_by Sink i k sound_at worn = k
 
 -- the run's fault is as the volume's
 pub start_kind : (v : VolumeFault) (e : Fault) → IsStartFault v e → IsLineFault e
@@ -458,33 +538,21 @@ acked_named s now old new [] same h = tt
 acked_named s now old new (a ∷ acks) same h =
     (record { past = h.0.past; few = h.0.few; kept = λ c left. h.0.kept c (same a.calls c left) }, acked_named s now old new acks same h.1)
 
--- what is left of a run by its image's name, which was attached
-pub ran_attached : (end : Option Fault) (acks : List Ack) (before mid : Disk) (known shown : Option Image) (calls : ℕ) (since left : ℕ → Image → Type 0) (writes : ℕ)
-    (script rest w1 w2 : Option (List ℕ)) (t1 t2 : Option Takes) (b m a : Faults)
+-- what is left of a work by its image's name, which was attached
+pub worked_attached : (end : Option Fault) (how : Closing) (asks : List LineMeaning → Type 0) (xs : List Exchange) (acks : List Ack) (before mid : Disk) (known shown : Option Image) (calls : ℕ)
+    (since left : ℕ → Image → Type 0) (writes : ℕ) (failed : Bool)
     → mid.image ≡ before.image → mid.calls ≡ before.calls + 1 → mid.write_faults ≡ before.write_faults
     → Elapses before.calls mid.calls before.left mid.left Nothing → shown ≡ known → ((t : ℕ) (c : Image) → left t c ↔ since t c)
-    → Ran (mid.calls + 1) end acks (ends mid script t1 w1 m) (ends (disk known calls since writes) rest t2 w2 a)
-    → Ran (before.calls + 2) end acks (ends before script t1 w1 b) (ends (disk shown calls left writes) rest t2 w2 a)
-ran_attached end acks before mid known shown calls since left writes script rest w1 w2 t1 t2 b m a image_is calls_are faults_are time shows named r = record {
-  exchanges = r.exchanges;
+    → Worked (mid.calls + 1) end how asks xs acks mid (disk known calls since writes failed)
+    → Worked (before.calls + 2) end how asks xs acks before (disk shown calls left writes failed)
+worked_attached end how asks xs acks before mid known shown calls since left writes failed image_is calls_are faults_are time shows named r = record {
   answered = r.answered;
-  front = r.front;
-  final = r.final;
-  taken = r.taken;
-  taken_is = r.taken_is;
-  script_is = r.script_is;
-  took = r.took;
-  begins = r.begins;
-  among_taken = r.among_taken;
-  among_script = r.among_script;
-  taken_at = r.taken_at;
-  read_out = r.read_out;
+  asked = r.asked;
   acked = r.acked;
-  replied = r.replied;
-  damage = subst (λ o. NamesDamage end r.exchanges o shown) image_is (subst (λ o. NamesDamage end r.exchanges mid.image o) (sym shows) r.damage);
+  damage = subst (λ o. NamesDamage end xs o shown) image_is (subst (λ o. NamesDamage end xs mid.image o) (sym shows) r.damage);
   transcribed = λ t n image is stands.
       let h = r.transcribed t n image (image_is ∙ is) stands in
-      let x : State = closed end (has_stop r.exchanges) calls (state_after (state_at t n h.first h.calls) h.run.entries) in
+      let x : State = closed end (adds_none how) calls (state_after (state_at t n h.first h.calls) h.run.entries) in
       let s = h.run.reached.survives in
       record {
         first = h.first;
@@ -502,29 +570,43 @@ ran_attached end acks before mid known shown calls since left writes script rest
               stopped = by_name (IsAtPoint x.passed 0)
                   (goes_on (IsAtPoint x.passed 0) (IsAtPoint x.passed 0) (within Nothing (IsAtPoint x.passed 0) time (λ c none. absurd none)) s.stopped (λ c p. p))
                   named;
-              opened = open_by (mid.calls + 1) (before.calls + 2) (omega (arith, calls_are)) r.exchanges x s.opened;
+              opened = open_by (mid.calls + 1) (before.calls + 2) (omega (arith, calls_are)) x s.opened;
               acked = acked_named x calls since left acks (λ k c was. (named k c).0 was) s.acked;
               acks_are = s.acks_are;
             };
-            shown = λ none. subst (λ o. IfSome o (Shows x)) (sym shows) (h.run.reached.shown none);
+            shown = λ none. subst (λ o. ShowsAll how o x) (sym shows) (h.run.reached.shown none);
           };
         };
       };
 }
   where
-    begun_by : (i : Image) (first : View) (k : ℕ) → HasBegun (mid.calls + 1) i first k ⊎ HasNotStarted end r.exchanges i
-        → HasBegun (before.calls + 2) i first k ⊎ HasNotStarted end r.exchanges i
+    begun_by : (i : Image) (first : View) (k : ℕ) → HasBegun (mid.calls + 1) i first k ⊎ HasNotStarted end xs i
+        → HasBegun (before.calls + 2) i first k ⊎ HasNotStarted end xs i
     begun_by i first k (inl h) = inl (record { view = h.view; opened = omega (arith, h.opened, calls_are) })
     begun_by i first k (inr unstarted) = inr unstarted
 
-    open_by : (k j : ℕ) → k ≡ j → (xs : List Exchange) (x : State) → ((c : Image) → since k c → IsAtPoint x.passed 0 c) ⊎ IsUnopened k xs mid (disk known calls since writes)
-        → ((c : Image) → left j c → IsAtPoint x.passed 0 c) ⊎ IsUnopened j xs before (disk shown calls left writes)
-    open_by k j same xs x (inl f) = inl (λ c was. f c ((named k c).0 (subst (λ i. left i c) (sym same) was)))
-    open_by k j same xs x (inr h) = inr (record { none = h.none; why = why h.why })
+    open_by : (k j : ℕ) → k ≡ j → (x : State) → ((c : Image) → since k c → IsAtPoint x.passed 0 c) ⊎ IsUnopened k xs mid (disk known calls since writes failed)
+        → ((c : Image) → left j c → IsAtPoint x.passed 0 c) ⊎ IsUnopened j xs before (disk shown calls left writes failed)
+    open_by k j same x (inl f) = inl (λ c was. f c ((named k c).0 (subst (λ i. left i c) (sym same) was)))
+    open_by k j same x (inr h) = inr (record { none = h.none; why = why h.why })
       where
-        why : IsUnmade k mid (disk known calls since writes) → IsUnmade j before (disk shown calls left writes)
+        why : IsUnmade k mid (disk known calls since writes failed) → IsUnmade j before (disk shown calls left writes failed)
         why (inl few) = inl (omega (arith, few, same))
         why (inr (few, rose)) = inr (omega (arith, few, same), subst (λ i. Rose i writes) faults_are rose)
+
+-- so of a run
+pub ran_attached : (end : Option Fault) (acks : List Ack) (before mid : Disk) (known shown : Option Image) (calls : ℕ) (since left : ℕ → Image → Type 0) (writes : ℕ) (failed : Bool)
+    (script rest w1 w2 : Option (List ℕ)) (t1 t2 : Option Takes) (b m a : Faults)
+    → mid.image ≡ before.image → mid.calls ≡ before.calls + 1 → mid.write_faults ≡ before.write_faults
+    → Elapses before.calls mid.calls before.left mid.left Nothing → shown ≡ known → ((t : ℕ) (c : Image) → left t c ↔ since t c)
+    → Ran (mid.calls + 1) end acks (ends mid script t1 w1 m) (ends (disk known calls since writes failed) rest t2 w2 a)
+    → Ran (before.calls + 2) end acks (ends before script t1 w1 b) (ends (disk shown calls left writes failed) rest t2 w2 a)
+ran_attached end acks before mid known shown calls since left writes failed script rest w1 w2 t1 t2 b m a image_is calls_are faults_are time shows named r = record {
+  exchanges = r.exchanges;
+  fed = r.fed;
+  worked = worked_attached end (AllDurable (has_stop r.exchanges)) (IsOfScript r.fed.taken script) r.exchanges acks before mid known shown calls since left writes failed image_is
+      calls_are faults_are time shows named r.worked;
+}
 
 -- an attach that failed
 pub ran_detached : (before now : Disk) (script w : Option (List ℕ)) (takes : Option Takes) (b a : Faults) → now.calls ≡ next_count before.calls
@@ -540,9 +622,9 @@ ran_detached before now script w takes b a once time =
 
 -- ---- causes
 
-pub cause_of : {T : Type 0} (r : Result T Fault) (before ended : Faults) → IsCaused before ended r → IfSome (end_of r) (λ e. Caused e before ended)
-cause_of (Ok x) before ended h = tt
-cause_of (Err e) before ended h = h.cause
+pub cause_of : {T : Type 0} (r : Result T Fault) (before ended : Faults) (last : Bool) → IsCaused before ended last r → IfSome (end_of r) (λ e. Caused e before ended last)
+cause_of (Ok x) before ended last h = tt
+cause_of (Err e) before ended last h = h.cause
 
 -- ---- statuses
 
@@ -562,12 +644,20 @@ ended_well (Ok x) status P is h zero = h
 ended_well (Err e) status P is h zero = absurd (never_zero e (sym is ∙ zero))
 
 -- where no fault came, all counts are as before
-pub well_counts : {T : Type 0} (r : Result T Fault) (old new : Option (List ℕ)) (before ended now : Faults) → IsCaused before ended r
+pub well_counts : {T : Type 0} (r : Result T Fault) (old new : Option (List ℕ)) (before ended now : Faults) (last : Bool) → IsCaused before ended last r
     → WritesEnd (end_of r) old new ended now → OnOk r (now ≡ before)
-well_counts (Ok x) old new before ended now cause written = written.1 ∙ cause.kept
-well_counts (Err e) old new before ended now cause written = tt
+well_counts (Ok x) old new before ended now last cause written = written.1 ∙ cause.kept
+well_counts (Err e) old new before ended now last cause written = tt
 
 -- ---- where nothing fails
+
+-- a count of faults after one more rose
+rose_next : (before now : ℕ) → now ≡ next_count before → Rose before now
+rose_next before now one = subst (Rose before) (sym one) (by (cases_lt before (2 ^ 64 - 1)))
+  where
+    by : (before < 2 ^ 64 - 1) ⊎ (2 ^ 64 - 1 ≤ before) → Rose before (next_count before)
+    by (inl low) = inl (omega (arith, low))
+    by (inr high) = inr (omega (arith, high))
 
 rose_later : (a b d : ℕ) → b ≤ d → Rose a b → Rose a d
 rose_later a b d h (inl r) = inl (omega arith)
@@ -582,37 +672,38 @@ too_long script (Some more) taken long is short =
     omega (arith, few, long, length-append taken more)
 
 -- an image that is known and stands for a tree has no damage
-undamaged : (settled block : ℕ) (acks : List Ack) (before now : Ends) → Ran settled (Some (Damaged block)) acks before now → IsSomeAnd before.disk.image HasStart → ⊥
-undamaged settled block acks before now r h = at before.disk.image refl h
+pub undamaged : (settled block : ℕ) (how : Closing) (asks : List LineMeaning → Type 0) (xs : List Exchange) (acks : List Ack) (before now : Disk)
+    → Worked settled (Some (Damaged block)) how asks xs acks before now → IsSomeAnd before.image HasStart → ⊥
+undamaged settled block how asks xs acks before now r h = at before.image refl h
   where
-    never : (u : State) (xs : List Exchange) (taken : List ℕ) (script : Option (List ℕ)) (i : Image)
-        → IsTold (Some (Damaged block)) xs taken script u ⊎ HasNotStarted (Some (Damaged block)) xs i → ⊥
-    never u xs taken script i (inl told) = told.told
-    never u xs taken script i (inr unstarted) = unstarted.why
+    never : (u : State) (i : Image) → IsTold (Some (Damaged block)) asks xs u ⊎ HasNotStarted (Some (Damaged block)) xs i → ⊥
+    never u i (inl t) = t.told r.asked.0 r.asked.1
+    never u i (inr unstarted) = unstarted.why
 
-    at : (o : Option Image) → before.disk.image ≡ o → IsSomeAnd o HasStart → ⊥
+    at : (o : Option Image) → before.image ≡ o → IsSomeAnd o HasStart → ⊥
     at None is k = k
-    at (Some i) is k = never _ _ _ _ i (r.transcribed k.0 k.1 i is k.2).run.reached.told
+    at (Some i) is k = never _ i (r.transcribed k.0 k.1 i is k.2).run.reached.told
 
 -- without a failure of the outside memory or a counter ended the run, if a fault did
-faultless_run : (settled : ℕ) (e : Fault) (acks : List Ack) (from now : Ends) (before ended : Faults) (later : ℕ) → Ran settled (Some e) acks from now
-    → Caused e before ended → ended.sink ≤ later → IsSomeAnd from.disk.image HasStart → IsSomeAnd from.script (λ bytes. length bytes ≤ script_limit)
+faultless_run : (settled : ℕ) (e : Fault) (acks : List Ack) (from now : Ends) (before ended : Faults) (later : ℕ) (last : Bool) → Ran settled (Some e) acks from now
+    → Caused e before ended last → ended.sink ≤ later → IsSomeAnd from.disk.image HasStart → IsSomeAnd from.script (λ bytes. length bytes ≤ script_limit)
     → IsFaultless before (faults ended.device ended.source later) → (status_of e ≡ 6) ⊎ (status_of e ≡ 8)
-faultless_run settled Device acks from now before ended later r cause k stands short f = absurd (f.device cause.0)
-faultless_run settled (Damaged block) acks from now before ended later r cause k stands short f = absurd (undamaged settled block acks from now r stands)
-faultless_run settled Source acks from now before ended later r cause k stands short f = absurd (f.source cause.0)
-faultless_run settled Memory acks from now before ended later r cause k stands short f = inl refl
-faultless_run settled TooLong acks from now before ended later r cause k stands short f = absurd (too_long from.script now.script r.taken r.taken_at.0 r.script_is short)
-faultless_run settled (Worn which) acks from now before ended later r cause k stands short f = inr refl
-faultless_run settled Sink acks from now before ended later r cause k stands short f = absurd (f.sink (rose_later before.sink ended.sink later k cause.0))
+faultless_run settled Device acks from now before ended later last r cause k stands short f = absurd (f.device (rose_next before.device ended.device cause.0))
+faultless_run settled (Damaged block) acks from now before ended later last r cause k stands short f =
+    absurd (undamaged settled block (AllDurable (has_stop r.exchanges)) (IsOfScript r.fed.taken from.script) r.exchanges acks from.disk now.disk r.worked stands)
+faultless_run settled Source acks from now before ended later last r cause k stands short f = absurd (f.source cause.0)
+faultless_run settled Memory acks from now before ended later last r cause k stands short f = inl refl
+faultless_run settled TooLong acks from now before ended later last r cause k stands short f = absurd (too_long from.script now.script r.fed.taken r.fed.taken_at.0 r.fed.script_is short)
+faultless_run settled (Worn which) acks from now before ended later last r cause k stands short f = inr refl
+faultless_run settled Sink acks from now before ended later last r cause k stands short f = absurd (f.sink (rose_later before.sink ended.sink later k cause.0))
 
-pub run_complete : {T : Type 0} (r : Result T Fault) (settled status : ℕ) (acks : List Ack) (from now : Ends) (before ended : Faults) (later : ℕ)
-    → status ≡ end_status (end_of r) → Ran settled (end_of r) acks from now → IsCaused before ended r → ended.sink ≤ later
+pub run_complete : {T : Type 0} (r : Result T Fault) (settled status : ℕ) (acks : List Ack) (from now : Ends) (before ended : Faults) (later : ℕ) (last : Bool)
+    → status ≡ end_status (end_of r) → Ran settled (end_of r) acks from now → IsCaused before ended last r → ended.sink ≤ later
     → IsSomeAnd from.disk.image HasStart × IsSomeAnd from.script (λ bytes. length bytes ≤ script_limit)
     → IsFaultless before (faults ended.device ended.source later) → (status ≡ 0) ⊎ (status ≡ 6) ⊎ (status ≡ 8)
-run_complete (Ok x) settled status acks from now before ended later is ran cause k ready f = inl is
-run_complete (Err e) settled status acks from now before ended later is ran cause k ready f =
-    either_status is (faultless_run settled e acks from now before ended later ran cause.cause k ready.0 ready.1 f)
+run_complete (Ok x) settled status acks from now before ended later last is ran cause k ready f = inl is
+run_complete (Err e) settled status acks from now before ended later last is ran cause k ready f =
+    either_status is (faultless_run settled e acks from now before ended later last ran cause.cause k ready.0 ready.1 f)
   where
     either_status : {s of : ℕ} → s ≡ of → (of ≡ 6) ⊎ (of ≡ 8) → (s ≡ 0) ⊎ (s ≡ 6) ⊎ (s ≡ 8)
     either_status same (inl six) = inr (inl (same ∙ six))

@@ -1,26 +1,23 @@
--- A call whose words aren't read, and words that are no call.
-use Rattle.std.proofs.Common.{◌≡◌, ◌⊎◌, ◌≢◌, ℕ, ◌+◌, List, [], refl, sym, subst, ◌∙◌, arith, inl, inr, true≢false, Option, None, Some, Result, Ok, Err}
+-- A call whose words aren't read, and words that make no call that is offered.
+use Rattle.std.proofs.Common.{◌≡◌, ◌⊎◌, ◌≢◌, ℕ, ◌+◌, List, [], refl, sym, subst, ◌∙◌, arith, inl, inr, true, true≢false, Option, None, Some, Result, Ok, Err}
 use Rattle.std.specs.Prelude.{IfSome, IsNone}
 use Rattle.bd_io.specs.Takes.{Takes}
 use Rattle.bd_device.specs.Blocks.{Image}
 use Rattle.bd_device.specs.Moments.{Elapses}
 use Rattle.bd_device.specs.declared.device.Device.{Ghosts}
-use Rattle.bd_words.specs.Words.{Call, Run, Format, Fill, HasForm, call_of}
-use Rattle.bd_words.proofs.Forms.{form_is_call}
+use Rattle.bd_words.specs.Words.{Call, Run, Format, Fill, Check, Export, Import, Serve}
 use Rattle.bd_shell.specs.declared.fault.Fault.{Fault}
 use Rattle.bd_shell.specs.declared.fault.Fault.TheVariants.{Memory, Sink}
 use Rattle.bd_shell.specs.declared.outcome.Ack.{Ack}
 use Rattle.bd_shell.specs.Fault.{Faults, status_of}
-use Rattle.bd_calls.specs.Run.{Disk, Does, Makes, Seen, Uses, WritesEnd, end_status, ends}
+use Rattle.bd_calls.specs.Offered.{is_offered}
+use Rattle.bd_calls.specs.Work.{Disk}
+use Rattle.bd_calls.specs.Run.{Does, Makes, Seen, Uses, WritesEnd, end_status, ends}
 use Rattle.bd_shell.specs.Session.{end_of}
 use Rattle.bd_calls.proofs.Fills.{never_two}
 use Rattle.bd_calls.proofs.Runs.{ran_refused}
 
 -- ---- what is said of the call that the words make
-
-pub for_some : {A : Type 0} (P : A → Type 0) (o : Option A) → ((x : A) → P x) → IfSome o P
-for_some P None h = tt
-for_some P (Some x) h = h x
 
 pub of_none : {A : Type 0} (P : A → Type 0) (o : Option A) → o ≡ None → IfSome o P
 of_none P o is = subst (λ o. IfSome o P) (sym is) tt
@@ -37,10 +34,6 @@ pub ended_known : {T : Type 0} (r : Result T Fault) (status : ℕ) → status �
 ended_known (Ok x) status is two = omega (arith, is, two)
 ended_known (Err e) status is two = never_two e (sym is ∙ two)
 
--- words of a form aren't refused
-pub never_refused : (words : List (List ℕ)) (call : Call) → HasForm call words → call_of words ≡ None → ⊥
-never_refused words call form none = true≢false (subst IsNone (sym none ∙ form_is_call call words form) refl)
-
 -- ---- no memory for the words
 
 -- no call was made, so the same is left
@@ -52,8 +45,8 @@ idle n left I = record {
 }
 
 pub does_unread : (call : Call) (d : Disk) (script w w' : Option (List ℕ)) (takes : Option Takes) (b a : Faults) (status : ℕ) (acks : List Ack) → status ≡ status_of Memory
-    → acks ≡ [] → WritesEnd (Some Memory) w w' b a → Does call status acks (ends d script takes w b) (ends d script takes w' a)
-does_unread (Run image) d script w w' takes b a status acks is none last = subst (λ acks. Does (Run image) status acks (ends d script takes w b) (ends d script takes w' a)) (sym none) (record {
+    → acks ≡ [] → WritesEnd (Some Memory) w w' b a → is_offered call ≡ true → Does call status acks (ends d script takes w b) (ends d script takes w' a)
+does_unread (Run image) d script w w' takes b a status acks is none last offered = subst (λ acks. Does (Run image) status acks (ends d script takes w b) (ends d script takes w' a)) (sym none) (record {
   end = Some Memory;
   status_is = is;
   replies = w;
@@ -63,7 +56,7 @@ does_unread (Run image) d script w w' takes b a status acks is none last = subst
   cause = refl;
   last = last;
 })
-does_unread (Format image slots) d script w w' takes b a status acks is none last = record {
+does_unread (Format image slots) d script w w' takes b a status acks is none last offered = record {
   end = Some Memory;
   status_is = is;
   replies = w;
@@ -75,29 +68,41 @@ does_unread (Format image slots) d script w w' takes b a status acks is none las
   last = last;
   acked = none;
 }
-does_unread (Fill image seed count) d script w w' takes b a status acks is none last = inr (record {
+does_unread (Fill image seed count) d script w w' takes b a status acks is none last offered = inr (record {
   status_is = is;
   acked = none;
-  disk_stays = record { image = refl; calls = refl; left = λ call image. (λ was. was, λ is. is); write_faults = refl };
+  disk_stays = record { image = refl; calls = refl; left = λ call image. (λ was. was, λ is. is); write_faults = refl; last_failed = refl };
   script_stays = refl;
   takes_stay = refl;
   last = last;
 })
+does_unread (Check image) d script w w' takes b a status acks is none last offered = absurd (true≢false (sym offered))
+does_unread (Export image path) d script w w' takes b a status acks is none last offered = absurd (true≢false (sym offered))
+does_unread (Import image path) d script w w' takes b a status acks is none last offered = absurd (true≢false (sym offered))
+does_unread (Serve image) d script w w' takes b a status acks is none last offered = absurd (true≢false (sym offered))
 
-pub uses_unread : (call : Call) (status : ℕ) (before now : Seen) (N U T : Type 0) → status ≡ status_of Memory → U → T → Uses call status before now N U T
-uses_unread (Run image) status before now N U T is untouched untaken = inr (inr ((is, untouched), untaken))
-uses_unread (Format image slots) status before now N U T is untouched untaken = (inr (inr (is, untouched)), untaken)
-uses_unread (Fill image seed count) status before now N U T is untouched untaken = (inr (inr (is, untouched)), untaken)
+pub uses_unread : (call : Call) (status : ℕ) (before now : Seen) (N U T : Type 0) → status ≡ status_of Memory → U → T → is_offered call ≡ true → Uses call status before now N U T
+uses_unread (Run image) status before now N U T is untouched untaken offered = inr (inr ((is, untouched), untaken))
+uses_unread (Format image slots) status before now N U T is untouched untaken offered = (inr (inr (is, untouched)), untaken)
+uses_unread (Fill image seed count) status before now N U T is untouched untaken offered = (inr (inr (is, untouched)), untaken)
+uses_unread (Check image) status before now N U T is untouched untaken offered = absurd (true≢false (sym offered))
+uses_unread (Export image path) status before now N U T is untouched untaken offered = absurd (true≢false (sym offered))
+uses_unread (Import image path) status before now N U T is untouched untaken offered = absurd (true≢false (sym offered))
+uses_unread (Serve image) status before now N U T is untouched untaken offered = absurd (true≢false (sym offered))
 
 -- want of memory is another status than an end well or by the sink
 not_done : (status : ℕ) → status ≡ status_of Memory → (status ≡ 0) ⊎ (status ≡ 9) → ⊥
 not_done status is (inl zero) = omega (arith, is, zero)
 not_done status is (inr nine) = omega (arith, is, nine)
 
-pub makes_unread : {D : Type 0} (g : Ghosts D) (call : Call) (status : ℕ) (old new : D) → status ≡ status_of Memory → Makes g call status old new
-makes_unread g (Run image) status old new is = λ zero. absurd (not_done status is (inl zero))
-makes_unread g (Format image slots) status old new is = λ done. absurd (not_done status is done)
-makes_unread g (Fill image seed count) status old new is = λ done. absurd (not_done status is done)
+pub makes_unread : {D : Type 0} (g : Ghosts D) (call : Call) (status : ℕ) (old new : D) → status ≡ status_of Memory → is_offered call ≡ true → Makes g call status old new
+makes_unread g (Run image) status old new is offered = λ zero. absurd (not_done status is (inl zero))
+makes_unread g (Format image slots) status old new is offered = λ done. absurd (not_done status is done)
+makes_unread g (Fill image seed count) status old new is offered = λ done. absurd (not_done status is done)
+makes_unread g (Check image) status old new is offered = absurd (true≢false (sym offered))
+makes_unread g (Export image path) status old new is offered = absurd (true≢false (sym offered))
+makes_unread g (Import image path) status old new is offered = absurd (true≢false (sym offered))
+makes_unread g (Serve image) status old new is offered = absurd (true≢false (sym offered))
 
 -- want of memory is one of the statuses that a call may end with where nothing fails
 pub complete_unread : {A : Type 0} (R : A → Type 0) (F : Type 0) (o : Option A) (status : ℕ) → status ≡ status_of Memory

@@ -1,3 +1,5 @@
 pub mod Format
 pub mod Fill
+pub mod Work
 pub mod Run
+pub mod Offered

@@ -1,21 +1,24 @@
-ghost use Rattle.std.specs.Prelude.{◌≡◌, ◌≢◌, ◌+◌, ◌<◌, ◌≤◌, ◌⊎◌, ℕ, [], Err, Some, length, map, string_bytes, IsNone, IfSome, OnOk, OnErr};
+ghost use Rattle.std.specs.Prelude.{◌≡◌, ◌≢◌, ◌+◌, ◌<◌, ◌≤◌, ◌⊎◌, ℕ, [], Err, Some, true, length, map, string_bytes, IsNone, IfSome, OnOk, OnErr};
 ghost use Rattle.bd_device.specs.Device.{Stays};
 ghost use Rattle.bd_io.specs.Cause.{next_count};
 ghost use Rattle.bd_words.specs.Line.{AreTaken};
-ghost use Rattle.bd_words.specs.Words.{Call as CallOf, HasForm, call_of};
+ghost use Rattle.bd_words.specs.Words.{Call, HasForm};
 ghost use Rattle.bd_shell.specs.declared.fault.Fault.{Fault};
 ghost use Rattle.bd_shell.specs.Fault.{faults, NeverFall, IsCaused, status_of};
 ghost use Rattle.bd_shell.specs.Session.{end_of};
-ghost use Rattle.bd_calls.specs.Run.{EndsUncalled, end_status, ends, Does, IsFaultless, IsFlushed, IsReady, Makes, Ran, Uses, WritesEnd, WritesLast, disk, image_of, seen, usage_line};
+ghost use Rattle.bd_calls.specs.Offered.{IsUnoffered, is_offered, offered};
+ghost use Rattle.bd_calls.specs.Work.{disk};
+ghost use Rattle.bd_calls.specs.Run.{EndsUncalled, end_status, ends, Does, IsFaultless, IsFlushed, IsReady, Makes, Ran, Uses, WritesEnd, WritesLast, image_of, seen, usage_line};
 
 use crate::fill::{end_fill, fill_image};
 use crate::format::format_image;
+use crate::task::{Task, read_task};
 use bd_device::{Attach, Device};
 use bd_io::{Sink, Source, put_all};
 use bd_keys::Items;
 use bd_shell::{Ack, FAULT_SIZE, Fault, Outcome, Shell, run_script};
 use bd_volume::Refused;
-use bd_words::{Call, WordsFault, read_words};
+use bd_words::WordsFault;
 use std::alloc::Global;
 
 /// The status where the words are refused.
@@ -23,7 +26,8 @@ const REFUSED: u8 = 2;
 
 /// What is written where the words are refused.
 const USAGE: &[u8] =
-    b"usage: betr run IMAGE | betr format IMAGE SLOTS | betr fill IMAGE SEED COUNT\n";
+    b"usage: betr run IMAGE | betr format IMAGE SLOTS | betr fill IMAGE SEED COUNT \
+    | betr check IMAGE | betr export IMAGE PATH | betr import IMAGE PATH | betr serve IMAGE\n";
 
 /// How a call ended, before its last line is written.
 #[derive(Debug, Drop)]
@@ -44,11 +48,13 @@ pub fn run_image<D: Attach, S: Source, K: Sink>(
 ) -> Ended
     ensures ran { Ran (D.call_count dev.old + 2) (end_of result.result) result.acks
         (ends (disk (D.shows dev.old image.now) (D.call_count dev.old)
-        (D.left_behind dev.old image.now) (D.write_fault_count dev.old))
+        (D.left_behind dev.old image.now) (D.write_fault_count dev.old)
+        (D.last_failed dev.old))
         (S.left src.old) (S.takes src.old) (K.written sink.old)
         (faults (D.fault_count dev.old) (S.fault_count src.old) (K.fault_count sink.old)))
         (ends (disk (D.shows dev.new image.now) (D.call_count dev.new)
-        (D.left_behind dev.new image.now) (D.write_fault_count dev.new))
+        (D.left_behind dev.new image.now) (D.write_fault_count dev.new)
+        (D.last_failed dev.new))
         (S.left src.new) (S.takes src.new) (K.written sink.new)
         (faults (D.fault_count dev.new) (S.fault_count src.new) (K.fault_count sink.new))) }
     ensures flushed { OnOk result.result (K.waiting sink.new ≡ 0) }
@@ -62,7 +68,7 @@ pub fn run_image<D: Attach, S: Source, K: Sink>(
     ensures cause { IsCaused
         (faults (D.fault_count dev.old) (S.fault_count src.old) (K.fault_count sink.old))
         (faults (D.fault_count dev.new) (S.fault_count src.new) (K.fault_count sink.new))
-        result.result }
+        (D.last_failed dev.new) result.result }
 {
     if dev.attach(image, None).is_err() {
         return Ended {
@@ -82,11 +88,11 @@ fn run_device<D: Attach, S: Source, K: Sink>(
 ) -> Ended
     ensures ran { Ran (D.call_count dev.old + 1) (end_of result.result) result.acks
         (ends (disk (D.contents dev.old) (D.call_count dev.old) (D.left_since dev.old)
-        (D.write_fault_count dev.old))
+        (D.write_fault_count dev.old) (D.last_failed dev.old))
         (S.left src.old) (S.takes src.old) (K.written sink.old)
         (faults (D.fault_count dev.old) (S.fault_count src.old) (K.fault_count sink.old)))
         (ends (disk (D.contents dev.new) (D.call_count dev.new) (D.left_since dev.new)
-        (D.write_fault_count dev.new))
+        (D.write_fault_count dev.new) (D.last_failed dev.new))
         (S.left src.new) (S.takes src.new) (K.written sink.new)
         (faults (D.fault_count dev.new) (S.fault_count src.new) (K.fault_count sink.new))) }
     ensures flushed { OnOk result.result (K.waiting sink.new ≡ 0) }
@@ -96,7 +102,7 @@ fn run_device<D: Attach, S: Source, K: Sink>(
     ensures cause { IsCaused
         (faults (D.fault_count dev.old) (S.fault_count src.old) (K.fault_count sink.old))
         (faults (D.fault_count dev.new) (S.fault_count src.new) (K.fault_count sink.new))
-        result.result }
+        (D.last_failed dev.new) result.result }
 {
     let _ = (dev.faults(), dev.blocks());
     match Shell::new(alloc, &mut *dev) {
@@ -208,12 +214,13 @@ fn end_unread<K: Sink>(alloc: Global, sink: &mut K) -> Outcome
 /// seed makes, eight lines and `COUNT` more, as `run` does one that a source gives: the source isn't
 /// touched, and in place of the replies one line `fill L ok A no B full C` tells how many lines were
 /// executed, and how many of their replies say `ok`, `no` and `full`; at a fault it comes before the
-/// fault's line. Other words have the usage line written, and nothing else is done (status 2). The
-/// first fault ends the run with its status, and its line where the sink takes it: the device 3,
-/// damage 4, of a bad block of the image, the source 5, memory 6, a script of more than 16,777,216
-/// bytes 7, a counter 8, the sink 9. Where there is no memory to read the words, that fault's line
-/// is all that is done. Before each take and at the end the sink passes on all that was written;
-/// after its own fault it isn't called again.
+/// fault's line. Other words have the usage line written, and nothing else is done (status 2); so
+/// have those of `check`, `export`, `import` and `serve`, though they make a call. The first fault
+/// ends the run with its status, and its line where the sink takes it: the device 3, damage 4, of a
+/// bad block of the image, the source 5, memory 6, a script of more than 16,777,216 bytes 7, a
+/// counter 8, the sink 9. Where there is no memory to read the words, that fault's line is all that
+/// is done. Before each take and at the end the sink passes on all that was written; after its own
+/// fault it isn't called again.
 ///
 /// At each `sync`, at `stop` and at the end of the script all accepted commands are made durable
 /// and acknowledged; at a fault they aren't. Stopped at any moment, the image stands for the tree
@@ -229,47 +236,50 @@ pub fn run<D: Attach, S: Source, K: Sink>(
     // With right words the call is done: a run has one list of lines with their replies, to which
     // all else is tied; also what a crash at any moment leaves of the image, and what was
     // acknowledged.
-    ensures does { IfSome (call_of (map string_bytes words.now)) (λ call.
+    ensures does { IfSome (offered (map string_bytes words.now)) (λ call.
         Does call result.status result.acks
         (ends (disk (D.shows dev.old (image_of call)) (D.call_count dev.old)
-        (D.left_behind dev.old (image_of call)) (D.write_fault_count dev.old))
+        (D.left_behind dev.old (image_of call)) (D.write_fault_count dev.old)
+        (D.last_failed dev.old))
         (S.left src.old) (S.takes src.old) (K.written sink.old)
         (faults (D.fault_count dev.old) (S.fault_count src.old) (K.fault_count sink.old)))
         (ends (disk (D.shows dev.new (image_of call)) (D.call_count dev.new)
-        (D.left_behind dev.new (image_of call)) (D.write_fault_count dev.new))
+        (D.left_behind dev.new (image_of call)) (D.write_fault_count dev.new)
+        (D.last_failed dev.new))
         (S.left src.new) (S.takes src.new) (K.written sink.new)
         (faults (D.fault_count dev.new) (S.fault_count src.new) (K.fault_count sink.new)))) }
 
     // What is done with the device is what the call says.
-    ensures device { IfSome (call_of (map string_bytes words.now)) (λ call. Uses call result.status
+    ensures device { IfSome (offered (map string_bytes words.now)) (λ call. Uses call result.status
         (seen (D.contents dev.old) (D.block_count dev.old)
         (D.shows dev.old) (D.call_count dev.old))
         (seen (D.contents dev.new) (D.block_count dev.new)
         (D.shows dev.new) (D.call_count dev.new))
         (D.is_named dev.new (image_of call)) (dev.new ≡ dev.old) (src.new ≡ src.old)) }
-    ensures makes { IfSome (call_of (map string_bytes words.now))
+    ensures makes { IfSome (offered (map string_bytes words.now))
         (λ call. Makes D.Device call result.status dev.old dev.new) }
     ensures same_loans { D.loans dev.new ≡ D.loans dev.old }
 
-    // Only words that are no call are refused, and only those that `clap` refuses, never one of the
-    // forms; they have the usage line written.
-    ensures refused { result.status ≡ 2 → IsNone (call_of (map string_bytes words.now)) }
-    ensures by_clap { result.status ≡ 2 → AreTaken (map string_bytes words.now) → ⊥ }
-    ensures forms { (call : CallOf) → HasForm call (map string_bytes words.now)
-        → result.status ≢ 2 }
+    // Only words that make no call that is offered are refused: of those that `clap` takes only the
+    // words of other calls, and never a form of one that is. They have the usage line written.
+    ensures refused { result.status ≡ 2 → IsNone (offered (map string_bytes words.now)) }
+    ensures by_clap { result.status ≡ 2 → AreTaken (map string_bytes words.now)
+        → IsUnoffered (map string_bytes words.now) }
+    ensures forms { (call : Call) → is_offered call ≡ true
+        → HasForm call (map string_bytes words.now) → result.status ≢ 2 }
     ensures usage { result.status ≡ 2 → WritesLast usage_line (K.written sink.old)
         (K.written sink.new) (K.fault_count sink.old) (K.fault_count sink.new) }
 
-    // Words that are no call are refused, or there was no memory for them; they touch neither the
-    // device nor the source.
-    ensures uncalled { IsNone (call_of (map string_bytes words.now))
+    // Words that make no call that is offered are refused, or there was no memory for them; they
+    // touch neither the device nor the source.
+    ensures uncalled { IsNone (offered (map string_bytes words.now))
         → EndsUncalled result.status (K.written sink.old) (K.written sink.new)
         (K.fault_count sink.old) (K.fault_count sink.new) }
-    ensures device_untouched { IsNone (call_of (map string_bytes words.now))
+    ensures device_untouched { IsNone (offered (map string_bytes words.now))
         → dev.new ≡ dev.old }
-    ensures source_untouched { IsNone (call_of (map string_bytes words.now))
+    ensures source_untouched { IsNone (offered (map string_bytes words.now))
         → src.new ≡ src.old }
-    ensures unacknowledged { IsNone (call_of (map string_bytes words.now)) → result.acks ≡ [] }
+    ensures unacknowledged { IsNone (offered (map string_bytes words.now)) → result.acks ≡ [] }
 
     // At the end the sink has passed on all that was written, or it has failed.
     ensures flushed { IsFlushed (K.waiting sink.new)
@@ -285,22 +295,22 @@ pub fn run<D: Attach, S: Source, K: Sink>(
         ≡ faults (D.fault_count dev.old) (S.fault_count src.old) (K.fault_count sink.old) }
 
     // Where nothing fails, the call is done, unless memory runs out or a counter is worn.
-    ensures complete { IfSome (call_of (map string_bytes words.now)) (λ call.
+    ensures complete { IfSome (offered (map string_bytes words.now)) (λ call.
         IsReady call (D.shows dev.old (image_of call)) (S.left src.old) → IsFaultless
         (faults (D.fault_count dev.old) (S.fault_count src.old) (K.fault_count sink.old))
         (faults (D.fault_count dev.new) (S.fault_count src.new) (K.fault_count sink.new))
         → (result.status ≡ 0) ⊎ (result.status ≡ 6) ⊎ (result.status ≡ 8)) }
 {
-    match read_words(alloc, words) {
-        Ok(Call::Run { image }) => {
+    match read_task(alloc, words) {
+        Ok(Task::Run { image }) => {
             let ended = run_image(alloc, image, dev, src, sink);
             end_call(sink, ended)
         }
-        Ok(Call::Format { image, slots }) => {
+        Ok(Task::Format { image, slots }) => {
             let made = format_image(alloc, image, slots, dev, sink);
             end_call(sink, made)
         }
-        Ok(Call::Fill { image, seed, count }) => {
+        Ok(Task::Fill { image, seed, count }) => {
             let filled = fill_image(alloc, image, seed, count, dev);
             end_fill(sink, filled)
         }

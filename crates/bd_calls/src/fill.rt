@@ -6,7 +6,8 @@ ghost use Rattle.bd_fill.specs.Counting.{tally_line};
 ghost use Rattle.bd_words.specs.Words.{fill_limit};
 ghost use Rattle.bd_shell.specs.Fault.{IsCaused};
 ghost use Rattle.bd_calls.specs.Fill.{CanEndLines, TellsSummary, cut_status, result_named};
-ghost use Rattle.bd_calls.specs.Run.{IsFlushed, RanGenerated, disk};
+ghost use Rattle.bd_calls.specs.Work.{disk};
+ghost use Rattle.bd_calls.specs.Run.{IsFlushed, RanGenerated};
 ghost use Rattle.bd_shell.specs.Session.{end_of};
 ghost use Rattle.bd_shell.specs.Shell.{counts_of};
 
@@ -38,9 +39,11 @@ pub fn fill_image<D: Attach>(
     ensures ran { RanGenerated seed count (end_of result.ended.result) result.ended.acks
         (tally_line result.tally)
         (disk (D.shows dev.old image.now) (D.call_count dev.old)
-        (D.left_behind dev.old image.now) (D.write_fault_count dev.old))
+        (D.left_behind dev.old image.now) (D.write_fault_count dev.old)
+        (D.last_failed dev.old))
         (disk (D.shows dev.new image.now) (D.call_count dev.new)
-        (D.left_behind dev.new image.now) (D.write_fault_count dev.new)) }
+        (D.left_behind dev.new image.now) (D.write_fault_count dev.new)
+        (D.last_failed dev.new)) }
     ensures kind { CanEndLines (end_of result.ended.result) }
     ensures attached { D.is_named dev.new image.now ⊎ ((result.ended.result ≡ Err Fault.Device)
         × (D.block_count dev.new ≡ 0)
@@ -50,7 +53,7 @@ pub fn fill_image<D: Attach>(
         (D.write_fault_count dev.new ≡ D.write_fault_count dev.old) }
     ensures same_loans { D.loans dev.new ≡ D.loans dev.old }
     ensures cause { (sink : ℕ) → IsCaused (counts_of D.Device dev.old sink)
-        (counts_of D.Device dev.new sink) result.ended.result }
+        (counts_of D.Device dev.new sink) (D.last_failed dev.new) result.ended.result }
 {
     let mut src = GeneratedSource::new(alloc, seed, count);
     let mut replies = CountingSink::new();

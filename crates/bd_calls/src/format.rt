@@ -1,6 +1,6 @@
 //! How the program makes an image.
 
-ghost use Rattle.std.specs.Prelude.{◌≡◌, ◌⊎◌, IsSome, None, Err, OnOk, OnErr, IfOk, IfErr};
+ghost use Rattle.std.specs.Prelude.{◌≡◌, ◌⊎◌, false, IsSome, None, Err, OnOk, OnErr, IfOk, IfErr};
 ghost use Rattle.std.specs.Io.KnownBytes.{append_known};
 ghost use Rattle.bd_io.specs.Cause.{next_count};
 ghost use Rattle.bd_io.specs.Written.{WrotePart};
@@ -25,8 +25,9 @@ const DONE: &[u8] = b"ok\n";
 
 /// Makes an image of this name and of so many slots, whatever had the name, and writes `ok`. The
 /// image stands for the tree of `/` alone and for no commands, and is acknowledged as that. `Device`
-/// comes only where a call of the device failed, which may have no image then, and `Memory` leaves
-/// what `Device` leaves; at `Sink` the image is made. At a fault nothing is acknowledged.
+/// comes only where a call of the device failed, its last one, and it may have no image then;
+/// `Memory` leaves what `Device` leaves; at `Sink` the image is made. At a fault nothing is
+/// acknowledged.
 pub fn format_image<D: Attach, K: Sink>(
     alloc: Global,
     image: &str,
@@ -47,7 +48,8 @@ pub fn format_image<D: Attach, K: Sink>(
         × (D.call_count dev.new ≡ next_count (D.call_count dev.old))) }
     ensures same_loans { D.loans dev.new ≡ D.loans dev.old }
     ensures cause { IsCaused (counts_of D.Device dev.old (K.fault_count sink.old))
-        (counts_of D.Device dev.new (K.fault_count sink.new)) result.result }
+        (counts_of D.Device dev.new (K.fault_count sink.new)) (D.last_failed dev.new)
+        result.result }
 {
     if dev.attach(image, Some(image_blocks(slots))).is_err() {
         return Ended {
@@ -84,7 +86,7 @@ fn make_acknowledged<D: Attach, K: Sink>(
     ensures flushed { OnOk result (K.waiting sink.new ≡ 0) }
     ensures stays { Stays D.Device dev.old dev.new }
     ensures cause { IsCaused (counts_of D.Device dev.old (K.fault_count sink.old))
-        (counts_of D.Device dev.new (K.fault_count sink.new)) result }
+        (counts_of D.Device dev.new (K.fault_count sink.new)) (D.last_failed dev.new) result }
 {
     let mut acks = Vec::new(alloc);
     acks.reserve(1)?;
@@ -104,7 +106,8 @@ fn make_image<D: Attach>(alloc: Global, slots: u32, dev: &mut D) -> Result<(), F
     ensures made { OnOk result (IsSome (D.contents dev.old) → HasNewImage D.Device dev.new) }
     ensures kind { IfErr result (λ e. (e ≡ Fault.Device) ⊎ (e ≡ Fault.Memory)) }
     ensures stays { Stays D.Device dev.old dev.new }
-    ensures cause { IsCaused (counts_of D.Device dev.old 0) (counts_of D.Device dev.new 0) result }
+    ensures cause { IsCaused (counts_of D.Device dev.old 0) (counts_of D.Device dev.new 0)
+        (D.last_failed dev.new) result }
 {
     let _ = dev.faults();
     match Volume::format(alloc, &mut *dev, slots) {
@@ -131,7 +134,7 @@ pub fn say<K: Sink>(sink: &mut K, line: &[u8]) -> Result<(), Fault>
     ensures flushed { OnOk result (K.waiting sink.new ≡ 0) }
     ensures kind { IfErr result (λ e. e ≡ Fault.Sink) }
     ensures cause { IsCaused (of_sink (K.fault_count sink.old)) (of_sink (K.fault_count sink.new))
-        result }
+        false result }
 {
     match put_all(sink, line) {
         Ok(()) => flush(sink),

@@ -6,7 +6,7 @@ ghost use Rattle.bd_model.specs.Tree.{Tree, IsTree};
 ghost use Rattle.bd_device.specs.Blocks.{Image};
 ghost use Rattle.bd_image.specs.ImageTree.{ImageStandsFor};
 ghost use Rattle.bd_shell.specs.Transcript.{State, Entry, IsTranscript, CanBe, AreCheap, state_after};
-ghost use Rattle.bd_calls.specs.Run.{AreInOrder};
+ghost use Rattle.bd_calls.specs.Work.{AreInOrder};
 
 /// What an image stands for is a tree. Where a transcript begins at one, each of its states has
 /// one, and each of its lines that is a command keeps the limits of commands: so what the model's

@@ -8,6 +8,7 @@ mod fill;
 mod format;
 pub mod laws;
 mod memory;
+mod task;
 
 pub use calling::run;
 pub use memory::row;

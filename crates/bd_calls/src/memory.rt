@@ -1,7 +1,7 @@
 ghost use Rattle.std.specs.Prelude.{◌≡◌, ℕ, List, Option, Some, map, string_bytes, IsNone, IfSome, IfOk, IsTrue, ⊤};
 ghost use Rattle.bd_io.specs.Takes.{Takes, no_takes};
 ghost use Rattle.bd_shell.specs.Fault.{faults};
-ghost use Rattle.bd_words.specs.Words.{call_of};
+ghost use Rattle.bd_calls.specs.Offered.{offered};
 ghost use Rattle.bd_calls.specs.Run.{EndsUncalled, ends, disk_in_memory, Does, Uses, WritesLast, seen_in_memory, usage_line};
 
 use crate::calling::run;
@@ -19,25 +19,25 @@ pub fn row(
     script: &[u8],
     sink: &mut MemSink,
 ) -> Result<Outcome, AllocError>
-    ensures does { IfOk result (λ r. IfSome (call_of (map string_bytes words.now)) (λ call.
+    ensures does { IfOk result (λ r. IfSome (offered (map string_bytes words.now)) (λ call.
         (rest : Option (List ℕ)) × (takes : Option Takes) × (source : ℕ)
         × Does call r.status r.acks
         (ends (disk_in_memory dev.old) (Some script.now) (Some no_takes)
         (Some sink.old.written) (faults dev.old.plan.faults 0 sink.old.plan.faults))
         (ends (disk_in_memory dev.new) rest takes (Some sink.new.written)
         (faults dev.new.plan.faults source sink.new.plan.faults)))) }
-    ensures device { IfOk result (λ r. IfSome (call_of (map string_bytes words.now)) (λ call.
+    ensures device { IfOk result (λ r. IfSome (offered (map string_bytes words.now)) (λ call.
         Uses call r.status (seen_in_memory dev.old) (seen_in_memory dev.new)
         (IsTrue dev.new.attached) (dev.new ≡ dev.old) ⊤)) }
     ensures refused { IfOk result (λ r.
-        r.status ≡ 2 → IsNone (call_of (map string_bytes words.now))) }
-    ensures uncalled { IfOk result (λ r. IsNone (call_of (map string_bytes words.now))
+        r.status ≡ 2 → IsNone (offered (map string_bytes words.now))) }
+    ensures uncalled { IfOk result (λ r. IsNone (offered (map string_bytes words.now))
         → EndsUncalled r.status (Some sink.old.written) (Some sink.new.written)
         sink.old.plan.faults sink.new.plan.faults) }
     ensures usage { IfOk result (λ r. r.status ≡ 2 → WritesLast usage_line
         (Some sink.old.written) (Some sink.new.written)
         sink.old.plan.faults sink.new.plan.faults) }
-    ensures untouched { IfOk result (λ r. IsNone (call_of (map string_bytes words.now))
+    ensures untouched { IfOk result (λ r. IsNone (offered (map string_bytes words.now))
         → dev.new ≡ dev.old) }
 {
     let mut src = MemSource::new(alloc, script, MAX_PIECE, &[])?;

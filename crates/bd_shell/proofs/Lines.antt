@@ -341,7 +341,7 @@ unnamed known e (inr is) = subst (NamesBadAt known) (sym is) tt
 
 -- no call of the device and of the sink failed
 caused_ok_at : {D T : Type 0} (g : Ghosts D) (d e : D) (sink later : ℕ) (x : T) → g.fault_count e ≡ g.fault_count d → later ≡ sink
-    → IsCaused (counts_of g d sink) (counts_of g e later) (Ok x)
+    → IsCaused (counts_of g d sink) (counts_of g e later) (g.last_failed e) (Ok x)
 caused_ok_at g d e sink later x same kept = record {
   later = record { device = omega (arith, same); source = omega arith; sink = omega (arith, kept) };
   kept = ap (λ n. record { device = n; source = 0; sink = later }) same ∙ ap (λ n. record { device = g.fault_count d; source = 0; sink = n }) kept;
@@ -379,18 +379,18 @@ on_ok_any (Err e) P h = tt
 -- ---- a fault or a reply as that of a call above
 
 -- causes of a fault are causes of it in another result
-pub fault_as : {T U : Type 0} (before now : Faults) (e : Fault) → IsCaused {T = T} before now (Err e) → IsCaused {T = U} before now (Err e)
-fault_as before now e h = record { later = h.later; kept = tt; cause = h.cause }
+pub fault_as : {T U : Type 0} (before now : Faults) (last : Bool) (e : Fault) → IsCaused {T = T} before now last (Err e) → IsCaused {T = U} before now last (Err e)
+fault_as before now last e h = record { later = h.later; kept = tt; cause = h.cause }
 
 -- the line was executed, and its reply written
-pub wrote_caused : {D T U : Type 0} (g : Ghosts D) (d e : D) (sink later : ℕ) (x : T) (y : U) → IsCaused (counts_of g d sink) (counts_of g e sink) (Ok x)
-    → later ≡ sink → IsCaused (counts_of g d sink) (counts_of g e later) (Ok y)
+pub wrote_caused : {D T U : Type 0} (g : Ghosts D) (d e : D) (sink later : ℕ) (x : T) (y : U) → IsCaused (counts_of g d sink) (counts_of g e sink) (g.last_failed e) (Ok x)
+    → later ≡ sink → IsCaused (counts_of g d sink) (counts_of g e later) (g.last_failed e) (Ok y)
 wrote_caused g d e sink later x y h same =
     caused_ok_at g d e sink later y (ap (λ (f : Faults). f.device) h.kept) same
 
 -- the line was executed, and the sink failed
-pub sink_caused : {D T U : Type 0} (g : Ghosts D) (d e : D) (sink later : ℕ) (x : T) → IsCaused (counts_of g d sink) (counts_of g e sink) (Ok x)
-    → sink ≤ later → Rose sink later → IsCaused {T = U} (counts_of g d sink) (counts_of g e later) (Err Sink)
+pub sink_caused : {D T U : Type 0} (g : Ghosts D) (d e : D) (sink later : ℕ) (x : T) → IsCaused (counts_of g d sink) (counts_of g e sink) (g.last_failed e) (Ok x)
+    → sink ≤ later → Rose sink later → IsCaused {T = U} (counts_of g d sink) (counts_of g e later) (g.last_failed e) (Err Sink)
 sink_caused g d e sink later x h few rose =
     let same : g.fault_count e ≡ g.fault_count d = ap (λ (f : Faults). f.device) h.kept in
     record {

@@ -1,5 +1,5 @@
 -- How the device and the counts of faults go on over several lines.
-use Rattle.std.proofs.Common.{◌≡◌, ℕ, refl, ap, subst, ◌∙◌, arith, inl, inr}
+use Rattle.std.proofs.Common.{◌≡◌, ℕ, Bool, refl, ap, subst, ◌∙◌, arith, inl, inr}
 use Rattle.std.specs.declared.result.Result.{Result}
 use Rattle.std.specs.declared.result.Result.TheVariants.{Ok, Err}
 use Rattle.bd_io.specs.Cause.{Rose}
@@ -36,8 +36,8 @@ writes_after g a b c Sink same h = h ∙ same
 -- ---- the counts
 
 -- nothing failed
-pub went_on : {T : Type 0} (before now : Faults) (x : T) → now ≡ before → IsCaused before now (Ok x)
-went_on before now x same = record {
+pub went_on : {T : Type 0} (before now : Faults) (last : Bool) (x : T) → now ≡ before → IsCaused before now last (Ok x)
+went_on before now last x same = record {
   later = record {
     device = omega (arith, ap (λ (f : Faults). f.device) same);
     source = omega (arith, ap (λ (f : Faults). f.source) same);
@@ -48,40 +48,40 @@ went_on before now x same = record {
 }
 
 -- nothing failed before a fault
-pub caused_after : {T U : Type 0} (a b c : Faults) (e : Fault) → b ≡ a → IsCaused {T = T} b c (Err e) → IsCaused {T = U} a c (Err e)
-caused_after {T} a b c e same h =
-    let k : IsCaused {T = T} a c (Err e) = subst (λ x. IsCaused {T = T} x c (Err e)) same h in
+pub caused_after : {T U : Type 0} (a b c : Faults) (last : Bool) (e : Fault) → b ≡ a → IsCaused {T = T} b c last (Err e) → IsCaused {T = U} a c last (Err e)
+caused_after {T} a b c last e same h =
+    let k : IsCaused {T = T} a c last (Err e) = subst (λ x. IsCaused {T = T} x c last (Err e)) same h in
     record { later = k.later; kept = tt; cause = k.cause }
 
 -- there was no memory
-pub memory_after : {T : Type 0} (before now : Faults) → now ≡ before → IsCaused {T = T} before now (Err Memory)
-memory_after before now same = record { later = (went_on before now (tt {0}) same).later; kept = tt; cause = same }
+pub memory_after : {T : Type 0} (before now : Faults) (last : Bool) → now ≡ before → IsCaused {T = T} before now last (Err Memory)
+memory_after before now last same = record { later = (went_on before now last (tt {0}) same).later; kept = tt; cause = same }
 
 -- ---- beside a source
 
-caused_beside : (e : Fault) (d k d2 k2 source : ℕ) → Caused e (faults d 0 k) (faults d2 0 k2) → Caused e (faults d source k) (faults d2 source k2)
-caused_beside Device d k d2 k2 source h = (h.0, ap (λ (f : Faults). faults d2 source f.sink) h.1)
-caused_beside (Damaged block) d k d2 k2 source h = ap (λ (f : Faults). faults f.device source f.sink) h
-caused_beside Source d k d2 k2 source h = absurd (never_rose h.0)
+caused_beside : (e : Fault) (d k d2 k2 source : ℕ) (last : Bool) → Caused e (faults d 0 k) (faults d2 0 k2) last → Caused e (faults d source k) (faults d2 source k2) last
+caused_beside Device d k d2 k2 source last h = (h.0, h.1, ap (λ (f : Faults). faults d2 source f.sink) h.2)
+caused_beside (Damaged block) d k d2 k2 source last h = ap (λ (f : Faults). faults f.device source f.sink) h
+caused_beside Source d k d2 k2 source last h = absurd (never_rose h.0)
   where
     never_rose : Rose 0 0 → ⊥
     never_rose (inl r) = omega arith
     never_rose (inr r) = omega arith
-caused_beside Memory d k d2 k2 source h = ap (λ (f : Faults). faults f.device source f.sink) h
-caused_beside TooLong d k d2 k2 source h = ap (λ (f : Faults). faults f.device source f.sink) h
-caused_beside (Worn which) d k d2 k2 source h = ap (λ (f : Faults). faults f.device source f.sink) h
-caused_beside Sink d k d2 k2 source h = (h.0, ap (λ (f : Faults). faults f.device source k2) h.1)
+caused_beside Memory d k d2 k2 source last h = ap (λ (f : Faults). faults f.device source f.sink) h
+caused_beside TooLong d k d2 k2 source last h = ap (λ (f : Faults). faults f.device source f.sink) h
+caused_beside (Worn which) d k d2 k2 source last h = ap (λ (f : Faults). faults f.device source f.sink) h
+caused_beside Sink d k d2 k2 source last h = (h.0, ap (λ (f : Faults). faults f.device source k2) h.1)
 
 -- what is caused without a source is caused beside one that stays as it was
-pub is_caused_beside : {T : Type 0} (r : Result T Fault) (d k d2 k2 source : ℕ) → IsCaused (faults d 0 k) (faults d2 0 k2) r
-    → IsCaused (faults d source k) (faults d2 source k2) r
-is_caused_beside (Ok x) d k d2 k2 source h = record {
+pub is_caused_beside : {T : Type 0} (r : Result T Fault) (d k d2 k2 source : ℕ) (last : Bool) → IsCaused (faults d 0 k) (faults d2 0 k2) last r
+    → IsCaused (faults d source k) (faults d2 source k2) last r
+is_caused_beside (Ok x) d k d2 k2 source last h = record {
   later = record { device = h.later.device; source = omega arith; sink = h.later.sink };
   kept = ap (λ (f : Faults). faults f.device source f.sink) h.kept;
   cause = tt;
 }
-is_caused_beside (Err e) d k d2 k2 source h = record {
+is_caused_beside (Err e) d k d2 k2 source last h = record {
   later = record { device = h.later.device; source = omega arith; sink = h.later.sink };
   kept = tt;
-  cause = caused_beside e d k d2 k2 source h.cause;
+  cause = caused_beside e d k d2 k2 source last h.cause;
 }

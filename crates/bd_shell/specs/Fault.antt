@@ -1,6 +1,6 @@
 -- The faults that end a run: their statuses and lines, and their causes.
-use Rattle.std.specs.Prelude.{◌≡◌, ℕ, ◌≤◌, List, [], ◌∷◌, ◌++◌, codes, decimal, Result, OnOk, IfErr, ⊤}
-use Rattle.bd_io.specs.Cause.{Rose}
+use Rattle.std.specs.Prelude.{◌≡◌, ℕ, ◌≤◌, Bool, IsTrue, List, [], ◌∷◌, ◌++◌, codes, decimal, Result, OnOk, IfErr, ⊤}
+use Rattle.bd_io.specs.Cause.{Rose, next_count}
 use Rattle.bd_device.specs.declared.fault.ImageFault.{ImageFault}
 use Rattle.bd_device.specs.declared.fault.ImageFault.TheVariants as image
 use Rattle.bd_message.specs.Counters.{counter_name}
@@ -74,24 +74,29 @@ pub record NeverFall (before now : Faults) : Type 0 where
   pub source : before.source ≤ now.source
   pub sink : before.sink ≤ now.sink
 
--- the count that is a fault's cause rose, and every other one stays; want of memory is free, and what
--- they leave shows the cause of the others
-abbrev pub Caused : Fault → Faults → Faults → Type 0
-Caused Device before now =
-    Rose before.device now.device × (now ≡ record before { device = now.device })
-Caused (Damaged block) before now = now ≡ before
-Caused Source before now =
+-- the count that is a fault's cause rose, and every other one stays; a fault of the device is that
+-- of its last call, and of no other; want of memory is free, and what they leave shows the cause of
+-- the others
+abbrev pub Caused : Fault → Faults → Faults → Bool → Type 0
+Caused Device before now last =
+    (now.device ≡ next_count before.device) × IsTrue last
+    × (now ≡ record before { device = now.device })
+Caused (Damaged block) before now last = now ≡ before
+Caused Source before now last =
     Rose before.source now.source × (now ≡ record before { source = now.source })
-Caused Memory before now = now ≡ before
-Caused TooLong before now = now ≡ before
-Caused (Worn which) before now = now ≡ before
-Caused Sink before now = Rose before.sink now.sink × (now ≡ record before { sink = now.sink })
+Caused Memory before now last = now ≡ before
+Caused TooLong before now last = now ≡ before
+Caused (Worn which) before now last = now ≡ before
+Caused Sink before now last =
+    Rose before.sink now.sink × (now ≡ record before { sink = now.sink })
 
--- no count falls, none rises where all went well, and a fault has its cause
-pub record IsCaused {T : Type 0} (before now : Faults) (result : Result T Fault) : Type 0 where
+-- no count falls, none rises where all went well, and a fault has its cause; `last` says whether
+-- the last call of the device failed
+pub record IsCaused {T : Type 0} (before now : Faults) (last : Bool) (result : Result T Fault)
+    : Type 0 where
   pub later : NeverFall before now
   pub kept : OnOk result (now ≡ before)
-  pub cause : IfErr result (λ e. Caused e before now)
+  pub cause : IfErr result (λ e. Caused e before now last)
 
 -- counts of the sink alone, and of source and sink
 abbrev pub of_sink : ℕ → Faults

@@ -56,7 +56,8 @@ impl<D: Device + Drop> Acknowledged<D> {
         ensures writes { FailsNoWrite D.Device (device_below self.old) (device_below self.new)
             result }
         ensures cause { (sink : ℕ) → IsCaused (counts_of D.Device (device_below self.old) sink)
-            (counts_of D.Device (device_below self.new) sink) result }
+            (counts_of D.Device (device_below self.new) sink)
+            (D.last_failed (device_below self.new)) result }
     {
         self.acks.reserve(1)?;
         if self.volume.sync().is_err() {

@@ -1,4 +1,4 @@
-ghost use Rattle.std.specs.Prelude.{◌≡◌, ◌≤◌, ℕ, [], None, IfOk, IfErr, OnOk, OnErr};
+ghost use Rattle.std.specs.Prelude.{◌≡◌, ◌≤◌, ℕ, false, [], None, IfOk, IfErr, OnOk, OnErr};
 ghost use Rattle.std.specs.Option.{option_map};
 ghost use Rattle.bd_limits.specs.Limits.{script_limit};
 ghost use Rattle.bd_device.specs.Device.{Stays};
@@ -63,7 +63,7 @@ pub fn flush<K: Sink>(sink: &mut K) -> Result<(), Fault>
     ensures bytes { K.written sink.new ≡ K.written sink.old }
     ensures kind { IfErr result (λ e. e ≡ Fault.Sink) }
     ensures cause { IsCaused (of_sink (K.fault_count sink.old)) (of_sink (K.fault_count sink.new))
-        result }
+        false result }
 {
     match sink.flush() {
         Ok(()) => Ok(()),
@@ -96,7 +96,7 @@ pub fn run_script<D: Device + Drop, S: Source, K: Sink>(
     ensures cause { IsCaused (faults (D.fault_count (device_in shell.old))
         (S.fault_count src.old) (K.fault_count sink.old))
         (faults (D.fault_count (device_in shell.new)) (S.fault_count src.new)
-        (K.fault_count sink.new)) result }
+        (K.fault_count sink.new)) (D.last_failed (device_in shell.new)) result }
 {
     let flow = run_pieces(alloc, shell, src, sink)?;
     flush(sink)?;
@@ -128,7 +128,7 @@ fn run_pieces<D: Device + Drop, S: Source, K: Sink>(
     ensures cause { IsCaused (faults (D.fault_count (device_in shell.old))
         (S.fault_count src.old) (K.fault_count sink.old))
         (faults (D.fault_count (device_in shell.new)) (S.fault_count src.new)
-        (K.fault_count sink.new)) result }
+        (K.fault_count sink.new)) (D.last_failed (device_in shell.new)) result }
 {
     let mut piece = [0; MAX_PIECE];
     let mut taken = 0;

@@ -74,7 +74,8 @@ fn execute<D: Device + Drop>(kept: &mut Acknowledged<D>, line: &Line) -> Result<
     ensures writes { FailsNoWrite D.Device (device_below kept.old) (device_below kept.new) result }
     ensures damage { NamesBad (D.contents (device_below kept.new)) result }
     ensures cause { (sink : ℕ) → IsCaused (counts_of D.Device (device_below kept.old) sink)
-        (counts_of D.Device (device_below kept.new) sink) result }
+        (counts_of D.Device (device_below kept.new) sink)
+        (D.last_failed (device_below kept.new)) result }
 {
     match line {
         Line::Run(command) => match kept.volume.do_command(command) {
@@ -137,7 +138,8 @@ fn execute_line<D: Device + Drop>(
     ensures writes { FailsNoWrite D.Device (device_below kept.old) (device_below kept.new) result }
     ensures damage { NamesBad (D.contents (device_below kept.new)) result }
     ensures cause { (sink : ℕ) → IsCaused (counts_of D.Device (device_below kept.old) sink)
-        (counts_of D.Device (device_below kept.new) sink) result }
+        (counts_of D.Device (device_below kept.new) sink)
+        (D.last_failed (device_below kept.new)) result }
 {
     match read_line(alloc, line) {
         Ok(line) => execute(kept, &line),
@@ -206,7 +208,8 @@ fn run_line<D: Device + Drop, K: Sink>(
     ensures writes { FailsNoWrite D.Device (device_below kept.old) (device_below kept.new) result }
     ensures damage { NamesBad (D.contents (device_below kept.new)) result }
     ensures cause { IsCaused (counts_of D.Device (device_below kept.old) (K.fault_count sink.old))
-        (counts_of D.Device (device_below kept.new) (K.fault_count sink.new)) result }
+        (counts_of D.Device (device_below kept.new) (K.fault_count sink.new))
+        (D.last_failed (device_below kept.new)) result }
 {
     let said = execute_line(alloc, kept, line)?;
     match write_reply(&said, buffer, sink) {
@@ -322,7 +325,8 @@ impl<D: Device + Drop> Shell<D> {
         ensures damage { NamesBad (D.contents (device_in self.new)) result }
         ensures cause { IsCaused
             (counts_of D.Device (device_in self.old) (K.fault_count sink.old))
-            (counts_of D.Device (device_in self.new) (K.fault_count sink.new)) result }
+            (counts_of D.Device (device_in self.new) (K.fault_count sink.new))
+            (D.last_failed (device_in self.new)) result }
     {
         if self.line.is_empty() {
             return run_line(alloc, &mut self.kept, last, &mut self.buffer, sink);
@@ -363,7 +367,8 @@ impl<D: Device + Drop> Shell<D> {
         ensures damage { NamesBad (D.contents (device_in self.new)) result }
         ensures cause { IsCaused
             (counts_of D.Device (device_in self.old) (K.fault_count sink.old))
-            (counts_of D.Device (device_in self.new) (K.fault_count sink.new)) result }
+            (counts_of D.Device (device_in self.new) (K.fault_count sink.new))
+            (D.last_failed (device_in self.new)) result }
     {
         let mut rest = piece;
         'lines: while let Some((last, tail)) = cut_line(rest) {
@@ -398,7 +403,8 @@ impl<D: Device + Drop> Shell<D> {
         ensures damage { NamesBad (D.contents (device_in self.new)) result }
         ensures cause { IsCaused
             (counts_of D.Device (device_in self.old) (K.fault_count sink.old))
-            (counts_of D.Device (device_in self.new) (K.fault_count sink.new)) result }
+            (counts_of D.Device (device_in self.new) (K.fault_count sink.new))
+            (D.last_failed (device_in self.new)) result }
     {
         if self.line.is_empty() {
             return Ok(ControlFlow::Continue(()));
@@ -422,7 +428,8 @@ impl<D: Device + Drop> Shell<D> {
         ensures device { Stays D.Device (device_in self.old) (device_in self.new) }
         ensures writes { FailsNoWrite D.Device (device_in self.old) (device_in self.new) result }
         ensures cause { (sink : ℕ) → IsCaused (counts_of D.Device (device_in self.old) sink)
-            (counts_of D.Device (device_in self.new) sink) result }
+            (counts_of D.Device (device_in self.new) sink)
+            (D.last_failed (device_in self.new)) result }
     {
         self.kept.acknowledge()
     }

@@ -4,7 +4,7 @@
 
 use crate::calls::{fault_text, formatted, piece_line, said};
 use bd_device::{Device, FaultyDevice, MemDevice};
-use bd_volume::{Fault, Refused, Volume};
+use bd_volume::{Fault, Volume};
 use std::alloc::Global;
 use std::process::Abort;
 use std::test::Fail;
@@ -100,7 +100,7 @@ fn image(rt: &impl Abort, alloc: Global, pieces: u32, call: u64) -> Result<MemDe
 fn started<D: Device + Drop>(alloc: Global, device: D) -> Result<Volume<D>, Fail> {
     match Volume::start(alloc, device) {
         Ok(volume) => Ok(volume),
-        Err(Refused { fault, .. }) => Err(Fail::from(fault)),
+        Err(unstarted) => Err(Fail::from(unstarted.fault())),
     }
 }
 
@@ -108,13 +108,13 @@ fn started<D: Device + Drop>(alloc: Global, device: D) -> Result<Volume<D>, Fail
 fn started_at_last(alloc: Global, device: MemDevice) -> Result<Volume<MemDevice>, Fail> {
     match Volume::start(alloc, device) {
         Ok(volume) => Ok(volume),
-        Err(
-            Refused {
-                fault: Fault::Device,
-                device,
-            },
-        ) => started(alloc, device),
-        Err(Refused { fault, .. }) => Err(Fail::from(fault)),
+        Err(unstarted) => {
+            let fault = unstarted.fault();
+            if fault == Fault::Device {
+                return started(alloc, unstarted.into_device());
+            }
+            Err(Fail::from(fault))
+        }
     }
 }
 

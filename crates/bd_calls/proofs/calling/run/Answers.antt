@@ -1,36 +1,37 @@
--- Each call ends well, or by a fault whose line is written; words that are no call, or that weren't
--- read, touch nothing.
+-- Each call ends well, or by a fault whose line is written; words that make no call that is offered,
+-- or that weren't read, touch nothing.
 use Rattle.std.proofs.Common.{refl, sym, ap, ◌∙◌, rules, arith, inl, inr}
 use Rattle.std.specs.declared.option.Option.TheVariants.{Some}
-use Rattle.bd_words.specs.Calls.{asked}
 use Rattle.bd_shell.specs.Fault.{faults}
 use Rattle.bd_shell.specs.Session.{end_of}
 use Rattle.bd_fill.specs.Counting.{tally_line}
 use Rattle.bd_words.specs.Words.{Run, Format, Fill}
 use Rattle.bd_shell.proofs.Moving.{is_caused_beside}
+use Rattle.bd_calls.specs.Offered.{call_at}
+use Rattle.bd_calls.proofs.Offered.{for_offered, never_refused}
 use Rattle.bd_calls.proofs.Runs.{of_call, ended_well, ok_of_none, well_counts, run_complete, cause_of}
 use Rattle.bd_calls.proofs.Fills.{fill_complete, fill_device, fill_short, told_done, told_well}
-use Rattle.bd_calls.proofs.Unread.{complete_unread, does_unread, for_some, makes_unread, never_refused, none_is, of_none, uses_unread}
+use Rattle.bd_calls.proofs.Unread.{complete_unread, does_unread, makes_unread, none_is, of_none, uses_unread}
 use Rattle.bd_calls.proofs.calling.run.Goals as goal
 
 pub returns-in-Ok-Run-clause-faultless : goal.returns-in-Ok-Run-clause-faultless
 returns-in-Ok-Run-clause-faultless g c =
     let ran = c.run_image-ended in
     let last = c.end_call.ensures.last (g.D.Device.fault_count ran.new.dev) (g.S.Source.fault_count ran.new.src) in
-    ended_well ran.result.result _ _ c.end_call.ensures.status (well_counts ran.result.result _ _ _ _ _ ran.ensures.cause last)
+    ended_well ran.result.result _ _ c.end_call.ensures.status (well_counts ran.result.result _ _ _ _ _ _ ran.ensures.cause last)
 
 pub returns-in-Ok-Run-clause-complete : goal.returns-in-Ok-Run-clause-complete
 returns-in-Ok-Run-clause-complete g c =
     let ran = c.run_image-ended in
-    of_call _ _ (Run c.in-Ok-Run.image.now) (ap (λ f. Some (asked f)) (sym c.in-Ok-Run.field-0-is) ∙ sym c.in-Ok-Run.ensures.call)
-    (λ ready f. run_complete ran.result.result _ _ _ _ _ _ _ _ c.end_call.ensures.status ran.ensures.ran ran.ensures.cause c.end_call.ensures.later ready f)
+    of_call _ _ (Run c.in-Ok-Run.image.now) (ap (λ f. Some (call_at f)) (sym c.in-Ok-Run.field-0-is) ∙ sym c.in-Ok-Run.ensures.task)
+    (λ ready f. run_complete ran.result.result _ _ _ _ _ _ _ _ _ c.end_call.ensures.status ran.ensures.ran ran.ensures.cause c.end_call.ensures.later ready f)
 
 pub returns-in-Ok-Format-clause-does : goal.returns-in-Ok-Format-clause-does
 returns-in-Ok-Format-clause-does g c =
     let made = c.format_image-made in
     let r = made.result.result in
     let call = c.in-Ok-Format in
-    of_call _ _ (Format call.image.now call.slots) (ap (λ f. Some (asked f)) (sym call.field-0-is) ∙ sym call.ensures.call)
+    of_call _ _ (Format call.image.now call.slots) (ap (λ f. Some (call_at f)) (sym call.field-0-is) ∙ sym call.ensures.task)
     (record {
       end = end_of r;
       status_is = c.end_call-in-Ok-Format.ensures.status;
@@ -39,7 +40,7 @@ returns-in-Ok-Format-clause-does g c =
       script_stays = refl;
       takes_stay = refl;
       said = made.ensures.said;
-      cause = cause_of r _ _ (is_caused_beside r _ _ _ _ (g.S.Source.fault_count c.args.src.now) made.ensures.cause);
+      cause = cause_of r _ _ _ (is_caused_beside r _ _ _ _ (g.S.Source.fault_count c.args.src.now) _ made.ensures.cause);
       last = c.end_call-in-Ok-Format.ensures.last _ _;
       acked = c.end_call-in-Ok-Format.ensures.acks ∙ made.ensures.acks;
     })
@@ -50,7 +51,7 @@ returns-in-Ok-Format-clause-faultless g c =
     let r = made.result.result in
     let last = c.end_call-in-Ok-Format.ensures.last (g.D.Device.fault_count made.new.dev) (g.S.Source.fault_count c.args.src.now) in
     ended_well r _ _ c.end_call-in-Ok-Format.ensures.status
-    (well_counts r _ _ _ _ _ (is_caused_beside r _ _ _ _ (g.S.Source.fault_count c.args.src.now) made.ensures.cause) last)
+    (well_counts r _ _ _ _ _ _ (is_caused_beside r _ _ _ _ (g.S.Source.fault_count c.args.src.now) _ made.ensures.cause) last)
 
 pub returns-in-Ok-Fill-clause-does : goal.returns-in-Ok-Fill-clause-does
 returns-in-Ok-Fill-clause-does g c =
@@ -58,14 +59,14 @@ returns-in-Ok-Fill-clause-does g c =
     let r = filled.result.ended.result in
     let call = c.in-Ok-Fill in
     let sink = g.K.Sink.fault_count c.args.sink.now in
-    let caused = is_caused_beside r _ sink _ sink (g.S.Source.fault_count c.args.src.now) (filled.ensures.cause sink) in
-    of_call _ _ (Fill call.image.now call.seed call.count) (ap (λ f. Some (asked f)) (sym call.field-0-is) ∙ sym call.ensures.call)
+    let caused = is_caused_beside r _ sink _ sink (g.S.Source.fault_count c.args.src.now) _ (filled.ensures.cause sink) in
+    of_call _ _ (Fill call.image.now call.seed call.count) (ap (λ f. Some (call_at f)) (sym call.field-0-is) ∙ sym call.ensures.task)
     (inl (record {
       end = end_of r;
       said = tally_line filled.result.tally;
       ran = rw c.end_fill.ensures.acks filled.ensures.ran;
       ended = faults (g.D.Device.fault_count filled.new.dev) (g.S.Source.fault_count c.args.src.now) sink;
-      cause = cause_of r _ _ caused;
+      cause = cause_of r _ _ _ caused;
       kept = λ none. ok_of_none r _ none caused.kept;
       told = c.end_fill.ensures.told;
       last = refl;
@@ -77,7 +78,7 @@ pub returns-in-Ok-Fill-clause-device : goal.returns-in-Ok-Fill-clause-device
 returns-in-Ok-Fill-clause-device g c =
     let filled = c.fill_image-filled in
     let call = c.in-Ok-Fill in
-    of_call _ _ (Fill call.image.now call.seed call.count) (ap (λ f. Some (asked f)) (sym call.field-0-is) ∙ sym call.ensures.call)
+    of_call _ _ (Fill call.image.now call.seed call.count) (ap (λ f. Some (call_at f)) (sym call.field-0-is) ∙ sym call.ensures.task)
     (fill_device filled.result.ended.result _ _ _ _ _ _ _ _ call.image.now c.end_fill.ensures.told filled.ensures.attached, refl)
 
 pub returns-in-Ok-Fill-clause-makes : goal.returns-in-Ok-Fill-clause-makes
@@ -85,7 +86,7 @@ returns-in-Ok-Fill-clause-makes g c =
     let filled = c.fill_image-filled in
     let r = filled.result.ended.result in
     let call = c.in-Ok-Fill in
-    of_call _ _ (Fill call.image.now call.seed call.count) (ap (λ f. Some (asked f)) (sym call.field-0-is) ∙ sym call.ensures.call)
+    of_call _ _ (Fill call.image.now call.seed call.count) (ap (λ f. Some (call_at f)) (sym call.field-0-is) ∙ sym call.ensures.task)
     (λ done. ok_of_none r _ (told_done (end_of r) _ _ _ _ _ _ filled.ensures.kind c.end_fill.ensures.told done) filled.ensures.writes)
 
 pub returns-in-Ok-Fill-clause-faultless : goal.returns-in-Ok-Fill-clause-faultless
@@ -96,7 +97,7 @@ returns-in-Ok-Fill-clause-faultless g c zero =
     let source = g.S.Source.fault_count c.args.src.now in
     let well = told_well (end_of r) _ _ _ _ _ _ c.end_fill.ensures.told zero in
     ap (λ k. faults (g.D.Device.fault_count filled.new.dev) source k) well.1
-    ∙ ok_of_none r _ well.0 (is_caused_beside r _ sink _ sink source (filled.ensures.cause sink)).kept
+    ∙ ok_of_none r _ well.0 (is_caused_beside r _ sink _ sink source _ (filled.ensures.cause sink)).kept
 
 pub returns-in-Ok-Fill-clause-later : goal.returns-in-Ok-Fill-clause-later
 returns-in-Ok-Fill-clause-later g c = record {
@@ -109,8 +110,8 @@ pub returns-in-Ok-Fill-clause-complete : goal.returns-in-Ok-Fill-clause-complete
 returns-in-Ok-Fill-clause-complete g c =
     let filled = c.fill_image-filled in
     let call = c.in-Ok-Fill in
-    of_call _ _ (Fill call.image.now call.seed call.count) (ap (λ f. Some (asked f)) (sym call.field-0-is) ∙ sym call.ensures.call)
-    (λ ready f. fill_complete filled.result.ended.result _ call.seed call.count _ _ _ _ _ _ _ _ _ _ _ _ (fill_short call.seed call.count (search rules))
+    of_call _ _ (Fill call.image.now call.seed call.count) (ap (λ f. Some (call_at f)) (sym call.field-0-is) ∙ sym call.ensures.task)
+    (λ ready f. fill_complete filled.result.ended.result _ call.seed call.count _ _ _ _ _ _ _ _ _ _ _ _ _ (fill_short call.seed call.count (search rules))
     filled.ensures.ran (filled.ensures.cause 0) c.end_fill.ensures.told ready f)
 
 pub returns-in-Err-Refused-clause-does : goal.returns-in-Err-Refused-clause-does
@@ -129,24 +130,24 @@ pub returns-in-Err-Refused-clause-refused : goal.returns-in-Err-Refused-clause-r
 returns-in-Err-Refused-clause-refused g c two = none_is _ (c.in-Err-Refused.ensures.refused c.in-Err-Refused.field-0-is)
 
 pub returns-in-Err-Refused-clause-by_clap : goal.returns-in-Err-Refused-clause-by_clap
-returns-in-Err-Refused-clause-by_clap g c two = c.in-Err-Refused.ensures.clap_refuses c.in-Err-Refused.field-0-is
+returns-in-Err-Refused-clause-by_clap g c two = c.in-Err-Refused.ensures.by_clap c.in-Err-Refused.field-0-is
 
 pub returns-in-Err-Refused-clause-forms : goal.returns-in-Err-Refused-clause-forms
-returns-in-Err-Refused-clause-forms g c call form two =
-    never_refused _ call form (c.in-Err-Refused.ensures.refused c.in-Err-Refused.field-0-is)
+returns-in-Err-Refused-clause-forms g c call offered form two =
+    never_refused _ call offered form (c.in-Err-Refused.ensures.refused c.in-Err-Refused.field-0-is)
 
 pub returns-in-Err-Refused-clause-uncalled : goal.returns-in-Err-Refused-clause-uncalled
 returns-in-Err-Refused-clause-uncalled g c none = inl (c.end_refused.ensures.status, c.end_refused.ensures.line)
 
 pub returns-in-Err-NoMemory-clause-does : goal.returns-in-Err-NoMemory-clause-does
 returns-in-Err-NoMemory-clause-does g c =
-    for_some _ _ (λ call. does_unread call _ _ _ _ _ _ _ _ _ c.end_unread.ensures.status c.end_unread.ensures.acks (c.end_unread.ensures.last _ _))
+    for_offered _ _ (λ call. does_unread call _ _ _ _ _ _ _ _ _ c.end_unread.ensures.status c.end_unread.ensures.acks (c.end_unread.ensures.last _ _))
 
 pub returns-in-Err-NoMemory-clause-device : goal.returns-in-Err-NoMemory-clause-device
-returns-in-Err-NoMemory-clause-device g c = for_some _ _ (λ call. uses_unread call _ _ _ _ _ _ c.end_unread.ensures.status refl refl)
+returns-in-Err-NoMemory-clause-device g c = for_offered _ _ (λ call. uses_unread call _ _ _ _ _ _ c.end_unread.ensures.status refl refl)
 
 pub returns-in-Err-NoMemory-clause-makes : goal.returns-in-Err-NoMemory-clause-makes
-returns-in-Err-NoMemory-clause-makes g c = for_some _ _ (λ call. makes_unread g.D.Device call _ _ _ c.end_unread.ensures.status)
+returns-in-Err-NoMemory-clause-makes g c = for_offered _ _ (λ call. makes_unread g.D.Device call _ _ _ c.end_unread.ensures.status)
 
 pub returns-in-Err-NoMemory-clause-complete : goal.returns-in-Err-NoMemory-clause-complete
 returns-in-Err-NoMemory-clause-complete g c = complete_unread _ _ _ _ c.end_unread.ensures.status

@@ -4,7 +4,8 @@ use Rattle.std.specs.Prelude.{IfSome}
 use Rattle.std.specs.declared.option.Option.TheVariants.{Some}
 use Rattle.bd_device.specs.Device.{Stays}
 use Rattle.bd_shell.specs.Fault.{faults}
-use Rattle.bd_calls.specs.Run.{disk, ends, Ran}
+use Rattle.bd_calls.specs.Work.{disk}
+use Rattle.bd_calls.specs.Run.{ends, Ran}
 use Rattle.bd_shell.specs.Session.{end_of}
 use Rattle.bd_shell.specs.Shell.{acks_in, device_in}
 use Rattle.bd_calls.proofs.Runs.{as_last, names_damage, ran_session, ran_unstarted, ok_of_none, same_tail}
@@ -14,10 +15,10 @@ pub returns-in-Err-clause-ran : goal.returns-in-Err-clause-ran
 returns-in-Err-clause-ran g c =
     rw c.new-in-Err.ensures
     (as_last (λ e. Ran (g.D.Device.call_count c.args.dev.now + 1) (Some c.of_start.result) []
-    (ends (disk (g.D.Device.contents c.args.dev.now) (g.D.Device.call_count c.args.dev.now) (g.D.Device.left_since c.args.dev.now) (g.D.Device.write_fault_count c.args.dev.now))
+    (ends (disk (g.D.Device.contents c.args.dev.now) (g.D.Device.call_count c.args.dev.now) (g.D.Device.left_since c.args.dev.now) (g.D.Device.write_fault_count c.args.dev.now) (g.D.Device.last_failed c.args.dev.now))
     (g.S.Source.left c.args.src.now) (g.S.Source.takes c.args.src.now) (g.K.Sink.written c.args.sink.now)
     (faults (g.D.Device.fault_count c.args.dev.now) (g.S.Source.fault_count c.args.src.now) (g.K.Sink.fault_count c.args.sink.now)))
-    (ends (disk (g.D.Device.contents e) (g.D.Device.call_count e) (g.D.Device.left_since e) (g.D.Device.write_fault_count e))
+    (ends (disk (g.D.Device.contents e) (g.D.Device.call_count e) (g.D.Device.left_since e) (g.D.Device.write_fault_count e) (g.D.Device.last_failed e))
     (g.S.Source.left c.args.src.now) (g.S.Source.takes c.args.src.now) (g.K.Sink.written c.args.sink.now)
     (faults (g.D.Device.fault_count e) (g.S.Source.fault_count c.args.src.now) (g.K.Sink.fault_count c.args.sink.now))))
     _ c.in-Err.refused.device.now (search rules)
@@ -32,10 +33,10 @@ returns-in-Ok-clause-ran g c =
     rw c.take_acks-acks.ensures.acks
     (as_last (λ e. (0 < g.D.Device.block_count e → IfSome (g.D.Device.contents e) (g.D.Device.left_since e (g.D.Device.call_count e)))
     → Ran (g.D.Device.call_count c.args.dev.now + 1) (end_of ran.result) (acks_in after)
-    (ends (disk (g.D.Device.contents c.args.dev.now) (g.D.Device.call_count c.args.dev.now) (g.D.Device.left_since c.args.dev.now) (g.D.Device.write_fault_count c.args.dev.now))
+    (ends (disk (g.D.Device.contents c.args.dev.now) (g.D.Device.call_count c.args.dev.now) (g.D.Device.left_since c.args.dev.now) (g.D.Device.write_fault_count c.args.dev.now) (g.D.Device.last_failed c.args.dev.now))
     (g.S.Source.left c.args.src.now) (g.S.Source.takes c.args.src.now) (g.K.Sink.written c.args.sink.now)
     (faults (g.D.Device.fault_count c.args.dev.now) (g.S.Source.fault_count c.args.src.now) (g.K.Sink.fault_count c.args.sink.now)))
-    (ends (disk (g.D.Device.contents e) (g.D.Device.call_count e) (g.D.Device.left_since e) (g.D.Device.write_fault_count e))
+    (ends (disk (g.D.Device.contents e) (g.D.Device.call_count e) (g.D.Device.left_since e) (g.D.Device.write_fault_count e) (g.D.Device.last_failed e))
     (g.S.Source.left ran.new.src) (g.S.Source.takes ran.new.src) (g.K.Sink.written ran.new.sink)
     (faults (g.D.Device.fault_count e) (g.S.Source.fault_count ran.new.src) (g.K.Sink.fault_count ran.new.sink))))
     _ (device_in after).now (search rules)

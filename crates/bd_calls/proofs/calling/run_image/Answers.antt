@@ -13,6 +13,6 @@ pub returns-clause-ran : goal.returns-clause-ran
 returns-clause-ran g c =
     let good = sym c.is_err.ensures.value ∙ c.if-is_err.false in
     let named = c.run_device.ensures.stays.same_name c.args.image.now (on_ok_of c.attach.result _ good c.attach.ensures.named) in
-    ran_attached _ _ _ _ _ _ _ _ _ _ _ _ _ _ _ _ _ _ _ (on_ok_of c.attach.result _ good c.attach.ensures.shown) (counted_once _ _ c.attach.result c.attach.ensures.calls good)
+    ran_attached _ _ _ _ _ _ _ _ _ _ _ _ _ _ _ _ _ _ _ _ (on_ok_of c.attach.result _ good c.attach.ensures.shown) (counted_once _ _ c.attach.result c.attach.ensures.calls good)
     c.attach.ensures.write_faults (on_ok_of c.attach.result _ good c.attach.ensures.time) (g.met.D.Attach.shows_named _ c.args.image.now named)
     (λ t i. g.met.D.Attach.left_named _ c.args.image.now t i named) c.run_device.ensures.ran

@@ -20,7 +20,7 @@ returns-in-Ok-clause-known g c =
 pub returns-in-Err-clause-told : goal.returns-in-Err-clause-told
 returns-in-Err-clause-told g c =
     tells_cut (end_of c.args.filled.ended.result) _ _ _ _ _ _ c.requires c.status_after.ensures
-    (said_part _ _ _ _ c.write_line-size.ensures.text c.in-Err.ensures.part) (rose_of_sink _ _ _ c.in-Err.ensures.kind c.in-Err.ensures.cause.cause)
+    (said_part _ _ _ _ c.write_line-size.ensures.text c.in-Err.ensures.part) (rose_of_sink _ _ _ _ c.in-Err.ensures.kind c.in-Err.ensures.cause.cause)
 
 pub returns-in-Err-clause-known : goal.returns-in-Err-clause-known
 returns-in-Err-clause-known g c = cut_known (end_of c.args.filled.ended.result) _ c.status_after.ensures

@@ -33,9 +33,10 @@ returns-in-Continue-clause-cause g c =
     let e = g.D.Device.fault_count (device_in c.close.new.self) in
     let src = g.S.Source.fault_count c.run_pieces.new.src in
     let sink = g.K.Sink.fault_count c.flush.new.sink in
-    subst (λ f. IsCaused f (faults e src sink) c.close.result)
+    let last = g.D.Device.last_failed (device_in c.close.new.self) in
+    subst (λ f. IsCaused f (faults e src sink) last c.close.result)
     (ap (λ (f : Faults). faults d src f.sink) c.in_ok-flush.ensures.cause.kept ∙ c.in_ok-flow.ensures.cause.kept)
-    (is_caused_beside c.close.result d sink e sink src (c.close.ensures.cause sink))
+    (is_caused_beside c.close.result d sink e sink src last (c.close.ensures.cause sink))
 
 pub returns-in-Break-clause-session : goal.returns-in-Break-clause-session
 returns-in-Break-clause-session g c first since =

@@ -101,7 +101,7 @@ returns-in_err-acknowledge-in-Sync-clause-err g c =
 pub returns-in_err-acknowledge-in-Sync-clause-cause : goal.returns-in_err-acknowledge-in-Sync-clause-cause
 returns-in_err-acknowledge-in-Sync-clause-cause g c =
     let p = err_from_is_err_and c.from_residual.result c.from_residual.ensures.1 in
-    rw (p.1, p.2) (λ sink. fault_as _ _ c.in_err-acknowledge-in-Sync.field-0.0 (c.in_err-acknowledge-in-Sync.ensures.cause sink))
+    rw (p.1, p.2) (λ sink. fault_as _ _ _ c.in_err-acknowledge-in-Sync.field-0.0 (c.in_err-acknowledge-in-Sync.ensures.cause sink))
 
 pub returns-in_ok-acknowledge-in-Sync-clause-ok : goal.returns-in_ok-acknowledge-in-Sync-clause-ok
 returns-in_ok-acknowledge-in-Sync-clause-ok g c first since s at =
@@ -109,7 +109,7 @@ returns-in_ok-acknowledge-in-Sync-clause-ok g c first since s at =
     sync_replies g.D.Device _ s k.calls c.args.line.now _ k.later k.reached.at k.reached c.in-Sync.is
 
 pub returns-in_ok-acknowledge-in-Sync-clause-cause : goal.returns-in_ok-acknowledge-in-Sync-clause-cause
-returns-in_ok-acknowledge-in-Sync-clause-cause g c sink = went_on _ _ _ (c.in_ok-acknowledge-in-Sync.ensures.cause sink).kept
+returns-in_ok-acknowledge-in-Sync-clause-cause g c sink = went_on _ _ _ _ (c.in_ok-acknowledge-in-Sync.ensures.cause sink).kept
 
 pub returns-in_err-acknowledge-in-Stop-clause-err : goal.returns-in_err-acknowledge-in-Stop-clause-err
 returns-in_err-acknowledge-in-Stop-clause-err g c =
@@ -120,7 +120,7 @@ returns-in_err-acknowledge-in-Stop-clause-err g c =
 pub returns-in_err-acknowledge-in-Stop-clause-cause : goal.returns-in_err-acknowledge-in-Stop-clause-cause
 returns-in_err-acknowledge-in-Stop-clause-cause g c =
     let p = err_from_is_err_and c.from_residual-in_err-acknowledge-in-Stop.result c.from_residual-in_err-acknowledge-in-Stop.ensures.1 in
-    rw (p.1, p.2) (λ sink. fault_as _ _ c.in_err-acknowledge-in-Stop.field-0.0 (c.in_err-acknowledge-in-Stop.ensures.cause sink))
+    rw (p.1, p.2) (λ sink. fault_as _ _ _ c.in_err-acknowledge-in-Stop.field-0.0 (c.in_err-acknowledge-in-Stop.ensures.cause sink))
 
 pub returns-in_ok-acknowledge-in-Stop-clause-ok : goal.returns-in_ok-acknowledge-in-Stop-clause-ok
 returns-in_ok-acknowledge-in-Stop-clause-ok g c first since s at =
@@ -128,7 +128,7 @@ returns-in_ok-acknowledge-in-Stop-clause-ok g c first since s at =
     stop_replies g.D.Device _ s k.calls c.args.line.now _ k.later k.reached.at k.reached c.in-Stop.is
 
 pub returns-in_ok-acknowledge-in-Stop-clause-cause : goal.returns-in_ok-acknowledge-in-Stop-clause-cause
-returns-in_ok-acknowledge-in-Stop-clause-cause g c sink = went_on _ _ _ (c.in_ok-acknowledge-in-Stop.ensures.cause sink).kept
+returns-in_ok-acknowledge-in-Stop-clause-cause g c sink = went_on _ _ _ _ (c.in_ok-acknowledge-in-Stop.ensures.cause sink).kept
 
 pub returns-in-Err-clause-damage : goal.returns-in-Err-clause-damage
 returns-in-Err-clause-damage g c = outcome_damage c.in-Err.fault _ _ c.outcome_of.ensures (λ block w. c.in-Err.ensures.damage block (ap Err w))

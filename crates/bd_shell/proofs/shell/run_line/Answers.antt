@@ -12,7 +12,7 @@ returns-in_err-said-clause-err g c =
 pub returns-in_err-said-clause-cause : goal.returns-in_err-said-clause-cause
 returns-in_err-said-clause-cause g c =
     let p = err_from_is_err_and c.from_residual.result c.from_residual.ensures.1 in
-    rw (p.1, p.2) (fault_as _ _ c.in_err-said.field-0.0 (c.in_err-said.ensures.cause (g.K.Sink.fault_count c.args.sink.now)))
+    rw (p.1, p.2) (fault_as _ _ _ c.in_err-said.field-0.0 (c.in_err-said.ensures.cause (g.K.Sink.fault_count c.args.sink.now)))
 
 pub returns-in_err-said-clause-writes : goal.returns-in_err-said-clause-writes
 returns-in_err-said-clause-writes g c =

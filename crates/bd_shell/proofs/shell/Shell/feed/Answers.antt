@@ -40,7 +40,7 @@ returns-in_err-end_line-clause-writes g c =
 pub returns-in_err-end_line-clause-cause : goal.returns-in_err-end_line-clause-cause
 returns-in_err-end_line-clause-cause g c =
     let p = err_from_is_err_and c.from_residual.result c.from_residual.ensures.1 in
-    rw (p.1, p.2) (caused_after _ _ _ c.in_err-end_line.field-0.0 c.lines.invariant.counts c.in_err-end_line.ensures.cause)
+    rw (p.1, p.2) (caused_after _ _ _ _ c.in_err-end_line.field-0.0 c.lines.invariant.counts c.in_err-end_line.ensures.cause)
 
 pub returns-in-Break-clause-ok : goal.returns-in-Break-clause-ok
 returns-in-Break-clause-ok g c first since =
@@ -61,7 +61,7 @@ pub returns-in-Break-clause-writes : goal.returns-in-Break-clause-writes
 returns-in-Break-clause-writes g c = c.in_ok-end_line.ensures.writes ∙ c.lines.invariant.writes
 
 pub returns-in-Break-clause-cause : goal.returns-in-Break-clause-cause
-returns-in-Break-clause-cause g c = went_on _ _ _ (c.in_ok-end_line.ensures.cause.kept ∙ c.lines.invariant.counts)
+returns-in-Break-clause-cause g c = went_on _ _ _ _ (c.in_ok-end_line.ensures.cause.kept ∙ c.lines.invariant.counts)
 
 pub lines-preserved : goal.lines-preserved
 lines-preserved g c = record {
@@ -93,7 +93,7 @@ returns-clause-flow g c =
     sym (fed_ends _ _ _ _ _ _ _ _ _ (c.lines.invariant.fed c.args.self.now.kept.volume.engine.pager.dev 0) (at_none _ c.cut_line.result c.cut_line.ensures c.in_default.not-Some) c.in_ok-hold.ensures.ok).no_stop
 
 pub returns-clause-cause : goal.returns-clause-cause
-returns-clause-cause g c = went_on _ _ _ c.lines.invariant.counts
+returns-clause-cause g c = went_on _ _ _ _ c.lines.invariant.counts
 
 pub returns-in_err-hold-clause-err : goal.returns-in_err-hold-clause-err
 returns-in_err-hold-clause-err g c =
@@ -108,4 +108,4 @@ returns-in_err-hold-clause-writes g c =
 pub returns-in_err-hold-clause-cause : goal.returns-in_err-hold-clause-cause
 returns-in_err-hold-clause-cause g c =
     let p = err_from_is_err_and c.from_residual-in_err-hold.result c.from_residual-in_err-hold.ensures.1 in
-    rw (p.1, p.2) (memory_after _ _ c.lines.invariant.counts)
+    rw (p.1, p.2) (memory_after _ _ _ c.lines.invariant.counts)
