@@ -5,7 +5,8 @@ Slow programs are given some of these images.
 """
 import re
 
-from fields import FIRST_SLOT, SLOT_BLOCKS, Damaged, changed, changes, fields_of, nodes_of, slot_block, start_of
+from fields import (FIRST_SLOT, SLOT_BLOCKS, Damaged, changed, changes, fields_of, names_wrongly, nodes_of, slot_block,
+                    start_of)
 from rich import RICH, SLOTS, image_of, set_blocks
 from script import compare, shown
 
@@ -83,16 +84,19 @@ class Image:
             self.wrong = f"{fault!r}, status {status}"
 
     def is_named(self, data, table, batch):
-        """Whether the damage is of the number's part. A node's may be the table's, which says what nodes there are,
-        or the batch's, since the tree that is left may refuse a record."""
+        """Whether the damage is of the number's part. A node's may be the table's, whose counts may be wrong then, or
+        the batch's, since the tree that is left may refuse a record. A node that names one which the table lacks, or
+        one of no lower level, is never the table's damage."""
         part, block = self.field.part, self.field.block
         if part in ("superblock", "table"):
             return self.is_found(changed(data, self.field, self.value))
+        if part == "node" and names_wrongly(data, self.field, self.value):
+            return self.damage in (None, block, batch)
         return self.damage in (None, block) or (part == "node" and self.damage in (table, batch))
 
     def is_found(self, image):
         """Whether the damage is what the rules find: at each start that of the superblocks and of the table, and where
-        these are whole that of a node's slot, of the table, whose nodes don't fit together, or of the batch. After a
+        these are whole that of a node's slot, of the table, whose counts are wrong, or of the batch. After a
         checkpoint nodes and table stand in other slots."""
         try:
             start = start_of(image)
@@ -139,7 +143,7 @@ DIR, NO_ROOT = "ok dir 0000", "no 1 not-found"
 FULL_BYTES = [
     ("superblock", 1, [(16, 1), (32, DIR), (64, 1)]),
     ("table", 148, [(16, 148), (24, DIR), (40, 148), (48, DIR), (55, 148), (56, 132), (64, 148)]),
-    ("root", 132, [(22, 132), (30, 148), (37, 132), (39, NO_ROOT), (40, 132), (42, NO_ROOT), (64, 132)]),
+    ("root", 132, [(37, 132), (39, NO_ROOT), (40, 132), (42, NO_ROOT), (64, 132)]),
 ]
 
 

@@ -199,8 +199,8 @@ def start_of(image):
     return max(found)
 
 
-def nodes_of(image, start):
-    """The first blocks of the nodes' slots, by the table from which an image starts, where that is one."""
+def entries_of(image, start):
+    """The ids, the slots and the levels of the nodes, by the table from which an image starts, where that is one."""
     data = b"".join(image[slot_block(slot) * BLOCK : slot_block(slot + 1) * BLOCK] for slot in start.table)
     count, next_id, root = (number_in(data, place, 8) for place in (8, 16, 24))
     end = 32 + 24 * count
@@ -215,7 +215,23 @@ def nodes_of(image, start):
     has_root = root in ids and levels[ids.index(root)] >= 1
     if not (are_ids and are_placed and are_right and has_root):
         raise Damaged(slot_block(start.table[0]))
-    return [slot_block(slot) for slot in slots]
+    return ids, slots, levels
+
+
+def nodes_of(image, start):
+    """The first blocks of the nodes' slots, by the table from which an image starts, where that is one."""
+    return [slot_block(slot) for slot in entries_of(image, start)[1]]
+
+
+def names_wrongly(image, field, value):
+    """Whether a number of a node is an id, and another one in its place that of a node which the table lacks, or of one
+    of no lower level. Ids alone have eight bytes there. An edge without a child has 0."""
+    if field.width != 8 or value == 0:
+        return False
+    ids, slots, levels = entries_of(image, start_of(image))
+    level_of = dict(zip(ids, levels))
+    level = levels[[slot_block(slot) for slot in slots].index(field.block)]
+    return value not in level_of or level_of[value] >= level
 
 
 def changed(image, field, value):

@@ -6,7 +6,9 @@ from pathlib import Path
 
 LINES = Path(__file__).resolve().parent.parent / "lines"
 
-USAGE = b"usage: betr run IMAGE | betr format IMAGE SLOTS | betr fill IMAGE SEED COUNT\n"
+USAGE = (
+    b"usage: betr run IMAGE | betr format IMAGE SLOTS | betr fill IMAGE SEED COUNT"
+    b" | betr check IMAGE | betr export IMAGE PATH | betr import IMAGE PATH | betr serve IMAGE\n")
 NO_IMAGE = b"fault device\n"
 NOTHING_FILLED = b"fill 0 ok 0 no 0 full 0\n"
 
@@ -43,8 +45,22 @@ REFUSED = [
     ["format", "img", ""], ["fill", "img", "7"], ["fill", "img", "7", "300", "1"], ["fill", "img", "4294967296", "300"],
     ["fill", "img", "7", "100001"], ["fill", "img", "x", "0"], ["fill", "img", "", "300"], ["fill", "-img", "0", "0"],
     ["fill", "--", "img", "-7", "300"], ["fill", "img", "-0", "300"],
+    ["check"], ["check", ""], ["check", "-x"], ["check", "img", "/d"], ["check", "img", ""], ["check", "--help"],
+    ["export", "img"], ["export", "/d", "-x"], ["export", "img", "-d"], ["export", "img", "--"], ["export", "", "/d"], ["export", "-x", "/d"],
+    ["export", "img", "/d", "/e"], ["export", "img", "/d", ""], ["export", "img", "/d", "-h"],
+    ["import", "img"], ["import", "img", "-d"], ["import", "", "/d"], ["import", "img", "/d", "/e"], ["import", "-x", "/d"],
+    ["serve"], ["serve", ""], ["serve", "-x"], ["serve", "img", "img"], ["Serve", "img"], ["exports", "img", "/d"],
     # Words that aren't UTF-8.
-    ["run", b"\xff"], ["run", b"img\xff"], ["run", b"-\xff"], ["run", "img", b"\xff"], [b"\xff"], [b"run\xff", "img"], [b"\xc3", b"\xa9"]]
+    ["run", b"\xff"], ["run", b"img\xff"], ["run", b"-\xff"], ["run", "img", b"\xff"], [b"\xff"], [b"run\xff", "img"], [b"\xc3", b"\xa9"],
+    ["export", "img", b"/\xff"]]
+
+# Words of the calls to check, to export, to import and to serve, which are answered as the ones that are refused.
+UNOFFERED = [
+    ["check", "img"], ["check", "-"], ["check", "--", "-x"], ["check", "img", "--"],
+    ["export", "img", "/"], ["export", "img", "/d"], ["export", "img", ""], ["export", "img", "d"], ["export", "img", "-"],
+    ["export", "img", "--", "-d"], ["export", "--", "-x", "/d"], ["export", "--", "img", "--"],
+    ["import", "img", "/"], ["import", "img", "/d"], ["import", "img", ""], ["import", "img", "--", "-d"], ["import", "--", "-x", "/d"],
+    ["serve", "img"], ["serve", "serve"], ["serve", "--", "-x"]]
 
 
 class Folder:
@@ -131,7 +147,7 @@ def fills(rows, report, fresh):
 
 def refused(betr, report):
     """Other words make the usage line and status 2, and touch no file."""
-    for words in REFUSED:
+    for words in REFUSED + UNOFFERED:
         with Folder(betr) as folder:
             (folder.path / "img").write_bytes(b"kept")
             found = folder.call(words)
