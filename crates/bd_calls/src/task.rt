@@ -46,7 +46,7 @@ pub fn read_task<'a>(alloc: Global, words: &'a [String]) -> Result<Task<'a>, Wor
 // The task of a call, where the program does it.
 fn task_of(call: Call<'_>) -> Option<Task<'_>>
     requires { IsWithinLimits call }
-    ensures task { option_map call_at result ≡ offer (asked call) }
+    ensures task { option_map call_at result ≡ offer (asked call.entry) }
     ensures within { IfSome result IsTaskWithin }
 {
     match call {
