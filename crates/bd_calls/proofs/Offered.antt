@@ -1,12 +1,10 @@
 -- The call that the words make, where the program does it.
-use Rattle.std.proofs.Common.{◌≡◌, ◌∙◌, Bool, true, false, cond, ℕ, List, refl, sym, ap, subst, true≢false, Option, None, Some, Result, Ok, Err, is_some, option_map}
-use Rattle.std.specs.Prelude.{IfErr, IfOk, IfSome, IsNone, IsSomeAnd, ok_or, unwrap_or}
+use Rattle.std.proofs.Common.{◌≡◌, ◌∙◌, Bool, true, false, cond, ℕ, List, refl, sym, ap, subst, true≢false, Option, None, Some, Result, is_some, option_map}
+use Rattle.std.specs.Prelude.{IfErr, IfOk, IfSome, IsSomeAnd, ok_or}
 use Rattle.std.specs.Option.{option_and_then}
 use Rattle.bd_words.specs.Words.{Call, HasForm, call_of}
-use Rattle.bd_words.specs.Calls.{asked}
-use Rattle.bd_words.specs.declared.words.Call.{Call as Read}
 use Rattle.bd_words.specs.declared.words.WordsFault.{WordsFault}
-use Rattle.bd_words.specs.declared.words.WordsFault.TheVariants.{NoMemory, Refused}
+use Rattle.bd_words.specs.declared.words.WordsFault.TheVariants.{Refused}
 use Rattle.bd_words.proofs.Forms.{form_is_call}
 use Rattle.bd_calls.specs.Offered.{IsTaskWithin, IsUnoffered, call_at, is_offered, offer, offered}
 use Rattle.bd_calls.specs.declared.task.Task.{Task}
