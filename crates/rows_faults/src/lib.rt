@@ -1,6 +1,6 @@
-//! The tests of a volume that goes on after a call that failed: want of memory, and a device that
-//! fails at each of its calls. A run of the program ends at its first fault, so that no row of a
-//! script shows this.
+//! The tests of what a volume tells its caller and no line shows: that it goes on after a call that
+//! failed, for want of memory or at a device that fails at each of its calls, since a run of the
+//! program ends at its first fault; and how many slots a command needs.
 //! Nothing stands on this crate.
 #![tactic(auto)]
 
@@ -8,5 +8,7 @@
 mod calls;
 #[cfg(test)]
 mod memory;
+#[cfg(test)]
+mod needs;
 #[cfg(test)]
 mod stopped;
