@@ -14,15 +14,15 @@ use std::process::Abort;
 use std::test::Fail;
 
 /// A volume on a new image of so many slots, of whose device, which has room for so many writes,
-/// this call fails, which is a later one: so it is made, or there is no memory.
+/// these calls fail, which are later ones: so it is made, or there is no memory.
 pub fn formatted(
     rt: &impl Abort,
     alloc: Global,
     slots: u32,
     writes: usize,
-    call: u64,
+    fail: &[u64],
 ) -> Result<Volume<MemDevice>, Fail> {
-    let device = MemDevice::new(alloc, image_blocks(slots), writes, &[call])?;
+    let device = MemDevice::new(alloc, image_blocks(slots), writes, fail)?;
     if slots < MIN_SLOTS || slots > MAX_SLOTS || device.blocks() != image_blocks(slots) {
         return Err(Fail::new("no image of so many slots"));
     }

@@ -263,7 +263,7 @@ impl Pair {
         Ok(Pair {
             questions: questions(alloc, script)?,
             tree: PlainTree::new(alloc)?,
-            volume: formatted(rt, alloc, script.slots, WRITES, u64::MAX)?,
+            volume: formatted(rt, alloc, script.slots, WRITES, &[])?,
             refused: 0,
         })
     }

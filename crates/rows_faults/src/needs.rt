@@ -31,6 +31,6 @@ fn are_needed(rt: &impl Abort, alloc: Global, volume: &mut Volume<MemDevice>) ->
 
 #[test]
 fn a_command_needs_slots(rt: HostRuntime) -> Result<(), Fail> {
-    let mut volume = formatted(&rt, rt.alloc(), 24, 2_000, u64::MAX)?;
+    let mut volume = formatted(&rt, rt.alloc(), 24, 2_000, &[])?;
     are_needed(&rt, rt.alloc(), &mut volume)
 }

@@ -3,7 +3,7 @@
 //! the device.
 
 use crate::calls::{fault_text, formatted, piece_line, said};
-use bd_device::{Device, FaultyDevice, MemDevice};
+use bd_device::{Device, MemDevice};
 use bd_volume::{Fault, Volume};
 use std::alloc::Global;
 use std::process::Abort;
@@ -86,10 +86,10 @@ fn make(
     gives(rt, alloc, volume, "checkpoint", "ok")
 }
 
-/// An image with a file of so many pieces, on a device of which this call fails, which is a later
-/// one.
-fn image(rt: &impl Abort, alloc: Global, pieces: u32, call: u64) -> Result<MemDevice, Fail> {
-    let mut volume = formatted(rt, alloc, 24, WRITES, call)?;
+/// An image with a file of so many pieces, on a device of which these calls fail, which are later
+/// ones.
+fn image(rt: &impl Abort, alloc: Global, pieces: u32, fail: &[u64]) -> Result<MemDevice, Fail> {
+    let mut volume = formatted(rt, alloc, 24, WRITES, fail)?;
     match make(rt, alloc, &mut volume, pieces) {
         Ok(()) => Ok(volume.into_device()),
         Err(fail) => Err(fail),
@@ -97,7 +97,7 @@ fn image(rt: &impl Abort, alloc: Global, pieces: u32, call: u64) -> Result<MemDe
 }
 
 /// A volume on a device.
-fn started<D: Device + Drop>(alloc: Global, device: D) -> Result<Volume<D>, Fail> {
+fn started(alloc: Global, device: MemDevice) -> Result<Volume<MemDevice>, Fail> {
     match Volume::start(alloc, device) {
         Ok(volume) => Ok(volume),
         Err(unstarted) => Err(Fail::from(unstarted.fault())),
@@ -128,10 +128,10 @@ fn every(alloc: Global, first: u64) -> Result<Vec<u64>, Fail> {
 }
 
 /// Whether a volume gives this reply to a line in the end, and is never stopped.
-fn gives_at_last<D: Device>(
+fn gives_at_last(
     rt: &impl Abort,
     alloc: Global,
-    volume: &mut Volume<D>,
+    volume: &mut Volume<MemDevice>,
     line: &str,
     want: &str,
 ) -> Result<(), Fail> {
@@ -147,10 +147,10 @@ fn gives_at_last<D: Device>(
 }
 
 /// Whether a volume gives the lines their replies in the end.
-fn reads_at_last<D: Device>(
+fn reads_at_last(
     rt: &impl Abort,
     alloc: Global,
-    volume: &mut Volume<D>,
+    volume: &mut Volume<MemDevice>,
 ) -> Result<(), Fail> {
     for (line, want) in READING {
         gives_at_last(rt, alloc, volume, line, want)?;
@@ -159,15 +159,10 @@ fn reads_at_last<D: Device>(
 }
 
 /// Whether the lines have their replies where every so many calls fail from this one on, which is
-/// after a start. The device, which no line has written to.
-fn read_again(
-    rt: &impl Abort,
-    alloc: Global,
-    device: MemDevice,
-    first: u64,
-) -> Result<MemDevice, Fail> {
-    let first = device.calls().saturating_add(first);
-    let mut volume = started(alloc, FaultyDevice::new(device, every(alloc, first)?))?;
+/// after a start, and none of them writes.
+fn read_again(rt: &impl Abort, alloc: Global, first: u64) -> Result<(), Fail> {
+    let device = image(rt, alloc, PIECES, &every(alloc, first)?)?;
+    let mut volume = started(alloc, device)?;
     match reads_at_last(rt, alloc, &mut volume) {
         Ok(()) => {
             let device = volume.into_device();
@@ -175,20 +170,23 @@ fn read_again(
                 device.faults() > 0 && device.write_faults() == 0,
                 "{first}"
             );
-            Ok(device.into_inner())
+            Ok(())
         }
         Err(fail) => Err(fail),
     }
 }
 
+/// How many calls make the image and start a volume on it.
+fn calls_of_start(rt: &impl Abort, alloc: Global) -> Result<u64, Fail> {
+    let volume = started(alloc, image(rt, alloc, PIECES, &[])?)?;
+    Ok(volume.calls())
+}
+
 #[test]
 fn a_failed_read_is_tried_again(rt: HostRuntime) -> Result<(), Fail> {
-    let device = image(&rt, rt.alloc(), PIECES, u64::MAX)?;
-    let before = device.calls();
-    let mut device = started(rt.alloc(), device)?.into_device();
-    let start = device.calls().saturating_sub(before);
+    let begun = calls_of_start(&rt, rt.alloc())?;
     for shift in 1..=GAP {
-        device = read_again(&rt, rt.alloc(), device, start.saturating_add(shift))?;
+        read_again(&rt, rt.alloc(), begun.saturating_add(shift))?;
     }
     Ok(())
 }
@@ -261,7 +259,7 @@ fn is_right(
 
 /// The calls before the start and the lines on a device of which this call fails, and after them.
 fn calls_of(rt: &impl Abort, alloc: Global, call: u64) -> Result<(u64, u64), Fail> {
-    let device = image(rt, alloc, 1, call)?;
+    let device = image(rt, alloc, 1, &[call])?;
     let begun = device.calls();
     let calls = is_right(rt, alloc, started_at_last(alloc, device)?, call)?;
     Ok((begun, calls))
