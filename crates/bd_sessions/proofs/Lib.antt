@@ -1,0 +1,11 @@
+pub mod FollowingLemmas
+pub mod CellLemmas
+pub mod PathLemmas
+pub mod StepLemmas
+pub mod FileLemmas
+pub mod FollowLemmas
+pub mod LongLines
+pub mod TurnLemmas
+pub mod PlainTexts
+pub mod SingleTurns
+pub mod OwnHandles

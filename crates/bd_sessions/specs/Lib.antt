@@ -1,0 +1,11 @@
+pub mod Following
+pub mod Handles
+pub mod Turns
+pub mod Reading
+pub mod Sessions
+pub mod Steps
+pub mod Cells
+pub mod Replies
+pub mod Spoken
+pub mod Telling
+pub mod Laws
