@@ -11,6 +11,7 @@ use Rattle.bd_view.specs.Moves.{Saves}
 use Rattle.bd_view.specs.Reclaiming.{IsReclaim}
 use Rattle.bd_shell.specs.declared.outcome.Ack.{Ack}
 use Rattle.bd_shell.specs.Transcript.{State, Entry, Answers, Serves, FillsCheckpoint, FillsReclaim, Follows, IsTranscript, ack, state_after, synced_state}
+use Rattle.bd_shell.proofs.Turns.{lifts}
 use Rattle.bd_calls.specs.Work.{AreInOrder}
 
 -- ---- lists of acknowledgements
@@ -66,4 +67,7 @@ follows_in_order least s (Err refusal) said after h more before = keeps_order le
 pub all_in_order : (least : ℕ) (s : State) (es : List Entry) → AreInOrder least s.calls s.acks → IsTranscript s es
     → AreInOrder least (state_after s es).calls (state_after s es).acks
 all_in_order least s [] before h = before
-all_in_order least s (e ∷ es) before h = all_in_order least e.state es (follows_in_order least s e.line e.said e.state h.0.follows h.0.later before) h.1
+all_in_order least s (e ∷ es) before h =
+    all_in_order least e.state es
+    (lifts (λ (a b : State). a.calls ≤ b.calls → AreInOrder least a.calls a.acks → AreInOrder least b.calls b.acks) (follows_in_order least) (λ a b kept f. f) s e.line e.said e.state
+    h.0.follows h.0.later before) h.1

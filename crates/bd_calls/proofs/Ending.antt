@@ -15,13 +15,16 @@ use Rattle.bd_device.specs.declared.device.Device.{Ghosts}
 use Rattle.bd_image.specs.ImageTree.{LeadsOn, ImageStandsFor}
 use Rattle.bd_checkpoint.specs.Kept.{AllStandFor}
 use Rattle.bd_engine.specs.Stored.{HasSaved}
-use Rattle.bd_script.specs.Lines.{LineMeaning, is_stop, up_to_stop}
 use Rattle.bd_script.specs.declared.line.Line.TheVariants.{Run, Walk, Df, Sync, Checkpoint, Reclaim, Stop}
-use Rattle.bd_script.specs.declared.replies.LineReply.{LineReply}
+use Rattle.bd_sessions.specs.Spoken.{Spoken, client_or_none, is_stop, is_stop_turn, up_to_stop}
+use Rattle.bd_sessions.specs.Telling.{DoesTurn, FollowsSpoken}
+use Rattle.bd_sessions.specs.Turns.{TurnMeaning}
+use Rattle.bd_sessions.specs.declared.replies.TurnReply.{TurnReply}
+use Rattle.bd_sessions.specs.declared.turn.Turn.TheVariants as turn
 use Rattle.bd_view.specs.Views.{View}
 use Rattle.bd_volume.specs.Volume.{IsSafe, StandsFor, view_of, device_of, stop_of}
 use Rattle.bd_volume.specs.declared.volume.Volume.{Volume}
-use Rattle.bd_shell.specs.Transcript.{State, Entry, Follows, IsTranscript, executed, exchanges_of, state_after}
+use Rattle.bd_shell.specs.Transcript.{State, Entry, IsTranscript, doing, executed, exchanges_of, state_after}
 use Rattle.bd_shell.specs.Session.{closed}
 use Rattle.bd_calls.specs.Work.{Shows}
 
@@ -52,22 +55,30 @@ settled_all g v t n h going none = safe_alone _ _ (left_now g (device_of v)) t n
 -- ---- the end of a script
 
 -- a `stop` makes all durable
-stop_idle : (s : State) (l : LineMeaning) (said : LineReply) (after : State) → Follows s l said after → is_stop l ≡ true → after.view.waiting ≡ 0
-stop_idle s (Ok (Run c)) said after h is = cc
-stop_idle s (Ok Walk) said after h is = cc
-stop_idle s (Ok Df) said after h is = cc
-stop_idle s (Ok Sync) said after h is = cc
-stop_idle s (Ok Checkpoint) said after h is = cc
-stop_idle s (Ok Reclaim) said after h is = cc
-stop_idle s (Ok Stop) said after h is = ap (λ (t : State). t.view.waiting) h.1
-stop_idle s (Err refusal) said after h is = cc
+stop_idle : (s : State) (x : Spoken) (said : TurnReply) (after : State) → FollowsSpoken doing s x said after → is_stop x ≡ true → after.view.waiting ≡ 0
+stop_idle s x said after h is = by x.turn h is
+  where
+    by : (t : TurnMeaning) → DoesTurn doing s (client_or_none x.client) t said after → is_stop_turn t ≡ true → after.view.waiting ≡ 0
+    by (Ok (turn.Plain (Run c))) g e = cc
+    by (Ok (turn.Plain Walk)) g e = cc
+    by (Ok (turn.Plain Df)) g e = cc
+    by (Ok (turn.Plain Sync)) g e = cc
+    by (Ok (turn.Plain Checkpoint)) g e = cc
+    by (Ok (turn.Plain Reclaim)) g e = cc
+    by (Ok (turn.Plain Stop)) g e = ap (λ (u : State). u.view.waiting) g.served.1
+    by (Ok (turn.Open path)) g e = cc
+    by (Ok (turn.Read handle off len)) g e = cc
+    by (Ok (turn.Write handle off bytes)) g e = cc
+    by (Ok (turn.Stat handle)) g e = cc
+    by (Ok (turn.Close handle)) g e = cc
+    by (Err refusal) g e = cc
 
 no_entries : (es : List Entry) → executed (exchanges_of es) ≡ [] → es ≡ []
 no_entries [] h = refl
 no_entries (e ∷ es) h = cc
 
 -- a `stop` is the last line
-stopped_idle : (s : State) (es : List Entry) (ls : List LineMeaning) → IsTranscript s es → executed (exchanges_of es) ≡ up_to_stop ls
+stopped_idle : (s : State) (es : List Entry) (ls : List Spoken) → IsTranscript s es → executed (exchanges_of es) ≡ up_to_stop ls
     → list_any is_stop (executed (exchanges_of es)) ≡ true → (state_after s es).view.waiting ≡ 0
 stopped_idle s [] ls h are some = cc
 stopped_idle s (e ∷ es) [] h are some = cc
@@ -84,7 +95,7 @@ stopped_idle s (e ∷ es) (l ∷ ls) h are some =
     by false is are more any = more are (subst (λ b. (b || list_any is_stop (executed (exchanges_of es))) ≡ true) is any)
 
 -- at the end all was made durable
-pub closed_idle : (s : State) (es : List Entry) (ls : List LineMeaning) (calls : ℕ) → IsTranscript s es → executed (exchanges_of es) ≡ up_to_stop ls
+pub closed_idle : (s : State) (es : List Entry) (ls : List Spoken) (calls : ℕ) → IsTranscript s es → executed (exchanges_of es) ≡ up_to_stop ls
     → (closed None (list_any is_stop (executed (exchanges_of es))) calls (state_after s es)).view.waiting ≡ 0
 closed_idle s es ls calls h are = by (list_any is_stop (executed (exchanges_of es))) (stopped_idle s es ls h are)
   where

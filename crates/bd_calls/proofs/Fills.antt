@@ -17,8 +17,13 @@ use Rattle.bd_io.specs.Written.{WrotePart}
 use Rattle.bd_io.proofs.Written.{append_known-twice}
 use Rattle.bd_model.specs.Tree.{Tree}
 use Rattle.bd_device.specs.Blocks.{Image}
-use Rattle.bd_script.specs.Lines.{LineMeaning, HasNoNewline, all_but_last, is_empty, is_stop, line_of, lines_of, open_line, pieces, up_to_stop, whole_lines}
+use Rattle.bd_script.specs.Lines.{LineMeaning, HasNoNewline, all_but_last, is_empty, line_of, lines_of, open_line, pieces, whole_lines}
 use Rattle.bd_script.specs.Replies.{line_reply_text, line_reply_line}
+use Rattle.bd_script.specs.declared.replies.LineReply.{LineReply}
+use Rattle.bd_sessions.specs.Replies.{said_line, said_text}
+use Rattle.bd_sessions.specs.Spoken.{Spoken, Mode, Single, is_stop, spoken, up_to_stop}
+use Rattle.bd_sessions.specs.declared.replies.TurnReply.{TurnReply}
+use Rattle.bd_sessions.specs.declared.replies.TurnReply.TheVariants as turn_reply
 use Rattle.bd_fill.specs.Counting.{tally_line, tally_of}
 use Rattle.bd_fill.specs.Scripts.{generated_script}
 use Rattle.bd_fill.specs.Summary.{summary}
@@ -29,16 +34,16 @@ use Rattle.bd_shell.specs.declared.fault.Fault.{Fault}
 use Rattle.bd_shell.specs.declared.fault.Fault.TheVariants.{Device, Damaged, Source, Memory, TooLong, Worn, Sink}
 use Rattle.bd_shell.specs.declared.outcome.Ack.{Ack}
 use Rattle.bd_shell.specs.Fault.{status_of, fault_line, Faults, faults, Caused, IsCaused}
-use Rattle.bd_shell.specs.Transcript.{State, Exchange, IsAnswered, text, executed, lines_to_run}
+use Rattle.bd_shell.specs.Transcript.{State, Exchange, IsAnswered, IsFront, IsLineOf, MayGet, MaySay, alone, text, executed, lines_to_run}
 use Rattle.bd_shell.specs.Session.{Among, IsAtLine, Replied, TakenAt, end_of, has_stop}
-use Rattle.bd_calls.specs.Fill.{CanEndLines, EndsLines, TellsSummary, WritesSome, cut_status, named, result_named, said_in}
+use Rattle.bd_calls.specs.Fill.{CanEndLines, EndsLines, TellsSummary, WritesSome, cut_status, line_said, named, result_named, said_in}
 use Rattle.bd_calls.specs.Work.{Disk, Closing, AllDurable, IsLast, IsTold, HasBegun, HasNotStarted, Transcribed, Worked}
 use Rattle.bd_calls.specs.Run.{Ends, ends, apart, IsOfScript, Ran, RanGenerated, WritesEnd, WritesLast, HasStart, IsFaultless, IsDetached, Seen, end_status}
 use Rattle.bd_calls.proofs.Runs.{run_complete}
 
 -- ---- want of memory by its own name
 
-last_named : (settled : ℕ) (how : Closing) (asks : List LineMeaning → Type 0) (xs : List Exchange) (acks : List Ack) (image : Image) (before now : Disk) (s : State)
+last_named : (settled : ℕ) (how : Closing) (asks : List Spoken → Type 0) (xs : List Exchange) (acks : List Ack) (image : Image) (before now : Disk) (s : State)
     → IsLast settled (Some Source) how asks xs acks image before now s → IsLast settled (Some Memory) how asks xs acks image before now s
 last_named settled how asks xs acks image before now s h = record {
   told = inl (told h.told);
@@ -55,7 +60,7 @@ last_named settled how asks xs acks image before now s h = record {
     impossible : Some Memory ≡ None → ⊥
     impossible e = cc
 
-transcribed_named : (settled : ℕ) (t : Tree) (n : ℕ) (image : Image) (how : Closing) (asks : List LineMeaning → Type 0) (xs : List Exchange) (acks : List Ack) (before now : Disk)
+transcribed_named : (settled : ℕ) (t : Tree) (n : ℕ) (image : Image) (how : Closing) (asks : List Spoken → Type 0) (xs : List Exchange) (acks : List Ack) (before now : Disk)
     → Transcribed settled t n image (Some Source) how asks xs acks before now → Transcribed settled t n image (Some Memory) how asks xs acks before now
 transcribed_named settled t n image how asks xs acks before now h = record {
   first = h.first;
@@ -73,7 +78,7 @@ transcribed_named settled t n image how asks xs acks before now h = record {
     begun (inl view) = view
     begun (inr unstarted) = absurd unstarted.why
 
-worked_named : (settled : ℕ) (how : Closing) (asks : List LineMeaning → Type 0) (xs : List Exchange) (acks : List Ack) (before now : Disk)
+worked_named : (settled : ℕ) (how : Closing) (asks : List Spoken → Type 0) (xs : List Exchange) (acks : List Ack) (before now : Disk)
     → Worked settled (Some Source) how asks xs acks before now → Worked settled (Some Memory) how asks xs acks before now
 worked_named settled how asks xs acks before now h = record {
   answered = h.answered;
@@ -83,8 +88,8 @@ worked_named settled how asks xs acks before now h = record {
   transcribed = λ t n image is stands. transcribed_named settled t n image how asks xs acks before now (h.transcribed t n image is stands);
 }
 
-source_named : (settled : ℕ) (acks : List Ack) (before now : Ends) → Ran settled (Some Source) acks before now → Ran settled (Some Memory) acks before now
-source_named settled acks before now h = record {
+source_named : (mode : Mode) (settled : ℕ) (acks : List Ack) (before now : Ends) → Ran mode settled (Some Source) acks before now → Ran mode settled (Some Memory) acks before now
+source_named mode settled acks before now h = record {
   exchanges = h.exchanges;
   fed = record {
     front = h.fed.front;
@@ -100,7 +105,7 @@ source_named settled acks before now h = record {
     read_out = tt;
     replied = h.fed.replied;
   };
-  worked = worked_named settled (AllDurable (has_stop h.exchanges)) (IsOfScript h.fed.taken before.script) h.exchanges acks before.disk now.disk h.worked;
+  worked = worked_named settled (AllDurable (has_stop h.exchanges)) (IsOfScript mode h.fed.taken before.script) h.exchanges acks before.disk now.disk h.worked;
 }
 
 -- ---- the summary that is written
@@ -215,23 +220,106 @@ told_done (Some e) status said old new before now can h (inr nine) = absurd (nev
 
 -- ---- the replies that were counted
 
-text_replies : (xs : List Exchange) → text xs ≡ flat_map line_reply_line (said_in xs)
-text_replies [] = refl
-text_replies (x ∷ xs) = ap (λ l. line_reply_line x.said ++ l) (text_replies xs)
+-- a line of no client
+abbrev IsSingle : Spoken → Type 0
+IsSingle l = (line : LineMeaning) × (l ≡ alone line)
 
-one_lines : (xs : List Exchange) → AllByRecursion IsAnswered xs → AllByRecursion (λ r. HasNoNewline (line_reply_text r)) (said_in xs)
-one_lines [] h = tt
-one_lines (x ∷ xs) h = (h.0.1, one_lines xs h.1)
+all_single : (ls : List (List ℕ)) → AllByRecursion IsSingle (map (spoken Single) ls)
+all_single [] = tt
+all_single (l ∷ ls) = ((line_of l, refl), all_single ls)
 
-length_said : (xs : List Exchange) → length (said_in xs) ≡ length xs
-length_said [] = refl
-length_said (x ∷ xs) = let e = length_said xs in omega arith
+up_to_single : (ls : List Spoken) → AllByRecursion IsSingle ls → AllByRecursion IsSingle (up_to_stop ls)
+up_to_single [] h = tt
+up_to_single (l ∷ ls) h = (h.0, by (is_stop l) (up_to_single ls h.1))
+  where
+    by : (b : Bool) → AllByRecursion IsSingle (up_to_stop ls) → AllByRecursion IsSingle (cond b [] (up_to_stop ls))
+    by true g = tt
+    by false g = g
+
+front_single : (xs : List Exchange) (rest ys : List Spoken) → ys ≡ executed xs ++ rest → AllByRecursion IsSingle ys → AllByRecursion (λ x. IsSingle x.line) xs
+front_single [] rest ys is h = tt
+front_single (x ∷ xs) rest [] is h = cc
+front_single (x ∷ xs) rest (y ∷ ys) is h =
+    let first : y ≡ x.line = cc in
+    let more : ys ≡ executed xs ++ rest = cc in
+    (subst IsSingle first h.0, front_single xs rest ys more h.1)
+
+at_line_front : (xs : List Exchange) (lines : List Spoken) → IsAtLine xs lines → IsFront (executed xs) lines
+at_line_front xs lines (inl none) = subst (λ (l : List Exchange). IsFront (executed l) lines) (sym none) (lines, refl)
+at_line_front xs lines (inr h) = (h.0 ∷ h.1.rest, h.1.lines_are)
+
+-- what was executed stands at the front of the lines of what was taken
+run_front : (mode : Mode) (end : Option Fault) (taken : List ℕ) (xs : List Exchange) → Among mode end taken xs → IsFront (executed xs) (lines_to_run mode taken)
+run_front mode None taken xs a = ([], sym a ∙ sym (append-nil (executed xs)))
+run_front mode (Some Device) taken xs a = a
+run_front mode (Some (Damaged block)) taken xs a = at_line_front xs (lines_to_run mode taken) a
+run_front mode (Some Source) taken xs a = a
+run_front mode (Some Memory) taken xs a = a
+run_front mode (Some TooLong) taken xs a = a
+run_front mode (Some (Worn which)) taken xs a = at_line_front xs (lines_to_run mode taken) a
+run_front mode (Some Sink) taken xs a = a
+
+-- so in a script of one client none comes from a client
+run_single : (end : Option Fault) (taken : List ℕ) (xs : List Exchange) → Among Single end taken xs → AllByRecursion (λ x. IsSingle x.line) xs
+run_single end taken xs a =
+    let front = run_front Single end taken xs a in
+    front_single xs front.0 (lines_to_run Single taken) front.1 (up_to_single (map (spoken Single) (lines_of taken)) (all_single (lines_of taken)))
+
+-- the reply to a line of no client is one to a line of a script
+reply_in : (P : LineReply → Type 0) (said : TurnReply) → IsLineOf P said → (r : LineReply) × (said ≡ turn_reply.Line r)
+reply_in P (turn_reply.Line r) h = (r, refl)
+reply_in P (turn_reply.Opened number) h = absurd h
+reply_in P turn_reply.Closed h = absurd h
+reply_in P (turn_reply.No denial) h = absurd h
+
+reply_alone : (line : LineMeaning) (said : TurnReply) → MaySay (alone line) said → (r : LineReply) × (said ≡ turn_reply.Line r)
+reply_alone (Ok line) said h = reply_in (MayGet (Ok line)) said h
+reply_alone (Err refusal) said h = reply_in (MayGet (Err refusal)) said h
+
+-- and is counted as that
+record OneReply (l : Spoken) (said : TurnReply) : Type 0 where
+  reply : LineReply
+  counted : line_said said ≡ reply ∷ []
+  line : said_line l.client said ≡ line_reply_line reply
+  text : said_text l.client said ≡ line_reply_text reply
+
+one_reply : (l : Spoken) (said : TurnReply) → IsSingle l → MaySay l said → OneReply l said
+one_reply l said single h =
+    let r = reply_alone single.0 said (subst (λ x. MaySay x said) single.1 h) in
+    record {
+      reply = r.0;
+      counted = ap line_said r.1;
+      line = ap (λ (x : Spoken). said_line x.client said) single.1 ∙ ap (said_line None) r.1;
+      text = ap (λ (x : Spoken). said_text x.client said) single.1 ∙ ap (said_text None) r.1;
+    }
+
+text_replies : (xs : List Exchange) → AllByRecursion IsAnswered xs → AllByRecursion (λ x. IsSingle x.line) xs → text xs ≡ flat_map line_reply_line (said_in xs)
+text_replies [] h single = refl
+text_replies (x ∷ xs) h single =
+    let one : OneReply x.line x.said = one_reply x.line x.said single.0 h.0.0 in
+    ap (λ l. l ++ text xs) one.line ∙ ap (λ l. line_reply_line one.reply ++ l) (text_replies xs h.1 single.1)
+    ∙ sym (ap (λ rs. flat_map line_reply_line (rs ++ said_in xs)) one.counted)
+
+one_lines : (xs : List Exchange) → AllByRecursion IsAnswered xs → AllByRecursion (λ x. IsSingle x.line) xs
+    → AllByRecursion (λ r. HasNoNewline (line_reply_text r)) (said_in xs)
+one_lines [] h single = tt
+one_lines (x ∷ xs) h single =
+    let one : OneReply x.line x.said = one_reply x.line x.said single.0 h.0.0 in
+    subst (λ rs. AllByRecursion (λ r. HasNoNewline (line_reply_text r)) (rs ++ said_in xs)) (sym one.counted)
+    (subst HasNoNewline one.text h.0.1, one_lines xs h.1 single.1)
+
+length_said : (xs : List Exchange) → AllByRecursion IsAnswered xs → AllByRecursion (λ x. IsSingle x.line) xs → length (said_in xs) ≡ length xs
+length_said [] h single = refl
+length_said (x ∷ xs) h single =
+    let one : OneReply x.line x.said = one_reply x.line x.said single.0 h.0.0 in
+    let e = length_said xs h.1 single.1 in
+    ap (λ rs. length (rs ++ said_in xs)) one.counted ∙ omega (arith, e)
 
 length_executed : (xs : List Exchange) → length (executed xs) ≡ length xs
 length_executed [] = refl
 length_executed (x ∷ xs) = let e = length_executed xs in omega arith
 
-up_to_stop_short : (ls : List LineMeaning) → length (up_to_stop ls) ≤ length ls
+up_to_stop_short : (ls : List Spoken) → length (up_to_stop ls) ≤ length ls
 up_to_stop_short [] = omega arith
 up_to_stop_short (l ∷ ls) = by (is_stop l) (up_to_stop_short ls)
   where
@@ -255,97 +343,98 @@ lines_short bytes =
     by true h = omega (arith, length-append (whole_lines bytes) [])
     by false h = omega (arith, length-append (whole_lines bytes) (open_line bytes ∷ []))
 
-to_run_short : (bytes : List ℕ) → length (lines_to_run bytes) ≤ length bytes + 1
-to_run_short bytes =
-    let a = up_to_stop_short (map line_of (lines_of bytes)) in
-    let b = length-map (lines_of bytes) line_of in
+to_run_short : (mode : Mode) (bytes : List ℕ) → length (lines_to_run mode bytes) ≤ length bytes + 1
+to_run_short mode bytes =
+    let a = up_to_stop_short (map (spoken mode) (lines_of bytes)) in
+    let b = length-map (lines_of bytes) (spoken mode) in
     let c = lines_short bytes in omega arith
 
-front_short : (xs : List Exchange) (ys rest : List LineMeaning) → ys ≡ executed xs ++ rest → length xs ≤ length ys
+front_short : (xs : List Exchange) (ys rest : List Spoken) → ys ≡ executed xs ++ rest → length xs ≤ length ys
 front_short xs ys rest is = omega (arith, ap length is, length-append (executed xs) rest, length_executed xs)
 
-at_line_short : (xs : List Exchange) (ys : List LineMeaning) → IsAtLine xs ys → length xs ≤ length ys
+at_line_short : (xs : List Exchange) (ys : List Spoken) → IsAtLine xs ys → length xs ≤ length ys
 at_line_short xs ys (inl none) = omega (arith, ap length none)
 at_line_short xs ys (inr h) = front_short xs ys (h.0 ∷ h.1.rest) h.1.lines_are
 
-run_short : (end : Option Fault) (taken : List ℕ) (xs : List Exchange) → Among end taken xs → TakenAt end taken xs → length xs ≤ script_limit + 2
-run_short None taken xs a t = omega (arith, ap length a, length_executed xs, to_run_short taken)
-run_short (Some Device) taken xs a t = omega (arith, front_short xs _ a.0 a.1, to_run_short taken)
-run_short (Some (Damaged block)) taken xs a t = omega (arith, at_line_short xs _ a, to_run_short taken)
-run_short (Some Source) taken xs a t = omega (arith, front_short xs _ a.0 a.1, to_run_short taken, t.0)
-run_short (Some Memory) taken xs a t = omega (arith, front_short xs _ a.0 a.1, to_run_short taken)
-run_short (Some TooLong) taken xs a t = omega (arith, front_short xs _ a.0 a.1, to_run_short taken, t.0)
-run_short (Some (Worn which)) taken xs a t = omega (arith, at_line_short xs _ a, to_run_short taken)
-run_short (Some Sink) taken xs a t = omega (arith, front_short xs _ a.0 a.1, to_run_short taken)
+run_short : (mode : Mode) (end : Option Fault) (taken : List ℕ) (xs : List Exchange) → Among mode end taken xs → TakenAt mode end taken xs → length xs ≤ script_limit + 2
+run_short mode None taken xs a t = omega (arith, ap length a, length_executed xs, to_run_short mode taken)
+run_short mode (Some Device) taken xs a t = omega (arith, front_short xs _ a.0 a.1, to_run_short mode taken)
+run_short mode (Some (Damaged block)) taken xs a t = omega (arith, at_line_short xs _ a, to_run_short mode taken)
+run_short mode (Some Source) taken xs a t = omega (arith, front_short xs _ a.0 a.1, to_run_short mode taken, t.0)
+run_short mode (Some Memory) taken xs a t = omega (arith, front_short xs _ a.0 a.1, to_run_short mode taken)
+run_short mode (Some TooLong) taken xs a t = omega (arith, front_short xs _ a.0 a.1, to_run_short mode taken, t.0)
+run_short mode (Some (Worn which)) taken xs a t = omega (arith, at_line_short xs _ a, to_run_short mode taken)
+run_short mode (Some Sink) taken xs a t = omega (arith, front_short xs _ a.0 a.1, to_run_short mode taken)
 
 some_same : (w bytes : List ℕ) → Some w ≡ append_known (Some []) bytes → w ≡ bytes
 some_same w bytes h = cc
 
 -- what was written is the text of all replies
-written_all : {T : Type 0} (r : Result T Fault) (front taken : List ℕ) (xs : List Exchange) (w : List ℕ) → CanEndLines (end_of (result_named r))
-    → Replied (end_of r) front taken xs (Some []) (Some w) → w ≡ text xs
-written_all (Ok x) front taken xs w can h = some_same w (text xs) h
-written_all (Err Device) front taken xs w can h = some_same w (text xs) h
-written_all (Err (Damaged block)) front taken xs w can h = some_same w (text xs) h
-written_all (Err Source) front taken xs w can h = some_same w (text xs) h
-written_all (Err Memory) front taken xs w can h = some_same w (text xs) h
-written_all (Err TooLong) front taken xs w can h = some_same w (text xs) h
-written_all (Err (Worn which)) front taken xs w can h = some_same w (text xs) h
-written_all (Err Sink) front taken xs w can h = absurd can
+written_all : (mode : Mode) {T : Type 0} (r : Result T Fault) (front taken : List ℕ) (xs : List Exchange) (w : List ℕ) → CanEndLines (end_of (result_named r))
+    → Replied mode (end_of r) front taken xs (Some []) (Some w) → w ≡ text xs
+written_all mode (Ok x) front taken xs w can h = some_same w (text xs) h
+written_all mode (Err Device) front taken xs w can h = some_same w (text xs) h
+written_all mode (Err (Damaged block)) front taken xs w can h = some_same w (text xs) h
+written_all mode (Err Source) front taken xs w can h = some_same w (text xs) h
+written_all mode (Err Memory) front taken xs w can h = some_same w (text xs) h
+written_all mode (Err TooLong) front taken xs w can h = some_same w (text xs) h
+written_all mode (Err (Worn which)) front taken xs w can h = some_same w (text xs) h
+written_all mode (Err Sink) front taken xs w can h = absurd can
 
-summed : (xs : List Exchange) (w : List ℕ) → w ≡ text xs → AllByRecursion IsAnswered xs → length xs ≤ script_limit + 2 → tally_line (tally_of w) ≡ summary (said_in xs)
-summed xs w is answered short =
-    ap (λ b. tally_line (tally_of b)) (is ∙ text_replies xs)
-    ∙ tally_replies (said_in xs) (one_lines xs answered) (omega (arith, short, length_said xs))
+summed : (xs : List Exchange) (w : List ℕ) → w ≡ text xs → AllByRecursion IsAnswered xs → AllByRecursion (λ x. IsSingle x.line) xs → length xs ≤ script_limit + 2
+    → tally_line (tally_of w) ≡ summary (said_in xs)
+summed xs w is answered single short =
+    ap (λ b. tally_line (tally_of b)) (is ∙ text_replies xs answered single)
+    ∙ tally_replies (said_in xs) (one_lines xs answered single) (omega (arith, short, length_said xs answered single))
 
 -- the counts of faults tell nothing of the lines
-other_faults : (settled : ℕ) (end : Option Fault) (acks : List Ack) (before now : Disk) (s s' w w' : Option (List ℕ)) (t t' : Option Takes) (f f' g g' : Faults)
-    → Ran settled end acks (ends before s t w f) (ends now s' t' w' f') → Ran settled end acks (ends before s t w g) (ends now s' t' w' g')
-other_faults settled end acks before now s s' w w' t t' f f' g g' h = record { exchanges = h.exchanges; fed = h.fed; worked = h.worked }
+other_faults : (mode : Mode) (settled : ℕ) (end : Option Fault) (acks : List Ack) (before now : Disk) (s s' w w' : Option (List ℕ)) (t t' : Option Takes) (f f' g g' : Faults)
+    → Ran mode settled end acks (ends before s t w f) (ends now s' t' w' f') → Ran mode settled end acks (ends before s t w g) (ends now s' t' w' g')
+other_faults mode settled end acks before now s s' w w' t t' f f' g g' h = record { exchanges = h.exchanges; fed = h.fed; worked = h.worked }
 
-ran_named : {T : Type 0} (r : Result T Fault) (settled : ℕ) (acks : List Ack) (before now : Ends) → Ran settled (end_of r) acks before now
-    → Ran settled (end_of (result_named r)) acks before now
-ran_named (Ok x) settled acks before now h = h
-ran_named (Err Device) settled acks before now h = h
-ran_named (Err (Damaged block)) settled acks before now h = h
-ran_named (Err Source) settled acks before now h = source_named settled acks before now h
-ran_named (Err Memory) settled acks before now h = h
-ran_named (Err TooLong) settled acks before now h = h
-ran_named (Err (Worn which)) settled acks before now h = h
-ran_named (Err Sink) settled acks before now h = h
+ran_named : (mode : Mode) {T : Type 0} (r : Result T Fault) (settled : ℕ) (acks : List Ack) (before now : Ends) → Ran mode settled (end_of r) acks before now
+    → Ran mode settled (end_of (result_named r)) acks before now
+ran_named mode (Ok x) settled acks before now h = h
+ran_named mode (Err Device) settled acks before now h = h
+ran_named mode (Err (Damaged block)) settled acks before now h = h
+ran_named mode (Err Source) settled acks before now h = source_named mode settled acks before now h
+ran_named mode (Err Memory) settled acks before now h = h
+ran_named mode (Err TooLong) settled acks before now h = h
+ran_named mode (Err (Worn which)) settled acks before now h = h
+ran_named mode (Err Sink) settled acks before now h = h
 
-same_exchanges : {T : Type 0} (r : Result T Fault) (settled : ℕ) (acks : List Ack) (before now : Ends) (h : Ran settled (end_of r) acks before now)
-    → (ran_named r settled acks before now h).exchanges ≡ h.exchanges
+same_exchanges : (mode : Mode) {T : Type 0} (r : Result T Fault) (settled : ℕ) (acks : List Ack) (before now : Ends) (h : Ran mode settled (end_of r) acks before now)
+    → (ran_named mode r settled acks before now h).exchanges ≡ h.exchanges
 unfolding ran_named source_named
-same_exchanges (Ok x) settled acks before now h = refl
-same_exchanges (Err Device) settled acks before now h = refl
-same_exchanges (Err (Damaged block)) settled acks before now h = refl
-same_exchanges (Err Source) settled acks before now h = refl
-same_exchanges (Err Memory) settled acks before now h = refl
-same_exchanges (Err TooLong) settled acks before now h = refl
-same_exchanges (Err (Worn which)) settled acks before now h = refl
-same_exchanges (Err Sink) settled acks before now h = refl
+same_exchanges mode (Ok x) settled acks before now h = refl
+same_exchanges mode (Err Device) settled acks before now h = refl
+same_exchanges mode (Err (Damaged block)) settled acks before now h = refl
+same_exchanges mode (Err Source) settled acks before now h = refl
+same_exchanges mode (Err Memory) settled acks before now h = refl
+same_exchanges mode (Err TooLong) settled acks before now h = refl
+same_exchanges mode (Err (Worn which)) settled acks before now h = refl
+same_exchanges mode (Err Sink) settled acks before now h = refl
 
 -- how the lines of a generated script went, from a run over its source and over a sink that counts
 pub ran_generated : {T : Type 0} (r : Result T Fault) (seed count : ℕ) (acks : List Ack) (before now : Disk) (left : Option (List ℕ)) (s w w' : List ℕ) (f f' : Faults)
     → s ≡ generated_script seed count → w ≡ [] → CanEndLines (end_of (result_named r))
-    → Ran (before.calls + 2) (end_of r) acks (ends before (Some s) None (Some w) f) (ends now left None (Some w') f')
+    → Ran Single (before.calls + 2) (end_of r) acks (ends before (Some s) None (Some w) f) (ends now left None (Some w') f')
     → RanGenerated seed count (end_of (result_named r)) acks (tally_line (tally_of w')) before now
 ran_generated r seed count acks before now left s w w' f f' s_is w_is can h =
-    from (subst (λ b. Ran (before.calls + 2) (end_of r) acks (apart before (Some (generated_script seed count)) (Some b)) (apart now left (Some w'))) w_is
-    (subst (λ b. Ran (before.calls + 2) (end_of r) acks (apart before (Some b) (Some w)) (apart now left (Some w'))) s_is
-    (other_faults _ _ _ before now (Some s) left (Some w) (Some w') None None f f' (faults 0 0 0) (faults 0 0 0) h)))
+    from (subst (λ b. Ran Single (before.calls + 2) (end_of r) acks (apart before (Some (generated_script seed count)) (Some b)) (apart now left (Some w'))) w_is
+    (subst (λ b. Ran Single (before.calls + 2) (end_of r) acks (apart before (Some b) (Some w)) (apart now left (Some w'))) s_is
+    (other_faults Single _ _ _ before now (Some s) left (Some w) (Some w') None None f f' (faults 0 0 0) (faults 0 0 0) h)))
   where
-    from : Ran (before.calls + 2) (end_of r) acks (apart before (Some (generated_script seed count)) (Some [])) (apart now left (Some w'))
+    from : Ran Single (before.calls + 2) (end_of r) acks (apart before (Some (generated_script seed count)) (Some [])) (apart now left (Some w'))
         → RanGenerated seed count (end_of (result_named r)) acks (tally_line (tally_of w')) before now
     from g = record {
       left = left;
       replies = Some w';
-      ran = ran_named r _ acks _ _ g;
+      ran = ran_named Single r _ acks _ _ g;
       kind = can;
-      said_is = summed g.exchanges w' (written_all r g.fed.front g.fed.taken g.exchanges w' can g.fed.replied) g.worked.answered
-          (run_short (end_of r) g.fed.taken g.exchanges g.fed.among_taken g.fed.taken_at)
-          ∙ ap (λ xs. summary (said_in xs)) (sym (same_exchanges r _ acks _ _ g));
+      said_is = summed g.exchanges w' (written_all Single r g.fed.front g.fed.taken g.exchanges w' can g.fed.replied) g.worked.answered
+          (run_single (end_of r) g.fed.taken g.exchanges g.fed.among_taken) (run_short Single (end_of r) g.fed.taken g.exchanges g.fed.among_taken g.fed.taken_at)
+          ∙ ap (λ xs. summary (said_in xs)) (sym (same_exchanges Single r _ acks _ _ g));
     }
 
 -- ---- which faults end the lines
@@ -364,17 +453,17 @@ not_too_long script taken (Some more) short is long = omega (arith, length-appen
     some_list : (a b : List ℕ) → Some a ≡ Some b → a ≡ b
     some_list a b e = cc
 
-pub can_end : {T : Type 0} (r : Result T Fault) (settled : ℕ) (acks : List Ack) (before now : Disk) (script : List ℕ) (left w w' : Option (List ℕ)) (d d' s s' : ℕ) (last : Bool) (f f' : Faults)
-    → length script ≤ script_limit → Ran settled (end_of r) acks (ends before (Some script) None w f) (ends now left None w' f')
+pub can_end : (mode : Mode) {T : Type 0} (r : Result T Fault) (settled : ℕ) (acks : List Ack) (before now : Disk) (script : List ℕ) (left w w' : Option (List ℕ)) (d d' s s' : ℕ) (last : Bool) (f f' : Faults)
+    → length script ≤ script_limit → Ran mode settled (end_of r) acks (ends before (Some script) None w f) (ends now left None w' f')
     → IsCaused (faults d s 0) (faults d' s' 0) last r → CanEndLines (end_of (result_named r))
-can_end (Ok x) settled acks before now script left w w' d d' s s' last f f' short h cause = tt
-can_end (Err Device) settled acks before now script left w w' d d' s s' last f f' short h cause = tt
-can_end (Err (Damaged block)) settled acks before now script left w w' d d' s s' last f f' short h cause = tt
-can_end (Err Source) settled acks before now script left w w' d d' s s' last f f' short h cause = tt
-can_end (Err Memory) settled acks before now script left w w' d d' s s' last f f' short h cause = tt
-can_end (Err TooLong) settled acks before now script left w w' d d' s s' last f f' short h cause = absurd (not_too_long script h.fed.taken left short h.fed.script_is h.fed.taken_at.0)
-can_end (Err (Worn which)) settled acks before now script left w w' d d' s s' last f f' short h cause = tt
-can_end (Err Sink) settled acks before now script left w w' d d' s s' last f f' short h cause = absurd (no_rise cause.cause.0)
+can_end mode (Ok x) settled acks before now script left w w' d d' s s' last f f' short h cause = tt
+can_end mode (Err Device) settled acks before now script left w w' d d' s s' last f f' short h cause = tt
+can_end mode (Err (Damaged block)) settled acks before now script left w w' d d' s s' last f f' short h cause = tt
+can_end mode (Err Source) settled acks before now script left w w' d d' s s' last f f' short h cause = tt
+can_end mode (Err Memory) settled acks before now script left w w' d d' s s' last f f' short h cause = tt
+can_end mode (Err TooLong) settled acks before now script left w w' d d' s s' last f f' short h cause = absurd (not_too_long script h.fed.taken left short h.fed.script_is h.fed.taken_at.0)
+can_end mode (Err (Worn which)) settled acks before now script left w w' d d' s s' last f f' short h cause = tt
+can_end mode (Err Sink) settled acks before now script left w w' d d' s s' last f f' short h cause = absurd (no_rise cause.cause.0)
 
 pub cause_named : {T : Type 0} (r : Result T Fault) (d d' s s' : ℕ) (last : Bool) → IsCaused (faults d s 0) (faults d' s' 0) last r
     → (k : ℕ) → IsCaused (faults d 0 k) (faults d' 0 k) last (result_named r)
@@ -408,10 +497,10 @@ fill_short seed count few = omega (arith, script_short seed count)
 -- so it is of the generated script
 pub can_fill : {T : Type 0} (r : Result T Fault) (seed count settled : ℕ) (acks : List Ack) (before now : Disk) (script : List ℕ) (left w w' : Option (List ℕ)) (d d' s s' : ℕ) (last : Bool)
     (f f' : Faults) → script ≡ generated_script seed count → count ≤ fill_limit
-    → Ran settled (end_of r) acks (ends before (Some script) None w f) (ends now left None w' f')
+    → Ran Single settled (end_of r) acks (ends before (Some script) None w f) (ends now left None w' f')
     → IsCaused (faults d s 0) (faults d' s' 0) last r → CanEndLines (end_of (result_named r))
 can_fill r seed count settled acks before now script left w w' d d' s s' last f f' is few h cause =
-    can_end r settled acks before now script left w w' d d' s s' last f f' (omega (arith, ap length is, fill_short seed count few)) h cause
+    can_end Single r settled acks before now script left w w' d d' s s' last f f' (omega (arith, ap length is, fill_short seed count few)) h cause
 
 pub fill_attached : {T P B C S U : Type 0} (r : Result T Fault) → P ⊎ ((r ≡ Err Device) × B × C × S × U) → P ⊎ ((result_named r ≡ Err Device) × B × C × S)
 fill_attached r (inl named) = inl named
@@ -433,7 +522,7 @@ pub fill_complete : {T : Type 0} (r : Result T Fault) (status seed count : ℕ) 
     → (status ≡ 0) ⊎ (status ≡ 6) ⊎ (status ≡ 8)
 fill_complete r status seed count acks said before now d d' s s' k k' last old new short g cause told ready f =
     as_told r told
-    (run_complete r (before.calls + 2) (end_status (end_of r)) acks _ _ (faults d 0 0) (faults d' 0 0) 0 last refl g.ran cause (omega arith) (ready, short)
+    (run_complete Single r (before.calls + 2) (end_status (end_of r)) acks _ _ (faults d 0 0) (faults d' 0 0) 0 last refl g.ran cause (omega arith) (ready, short)
     (record { device = f.device; source = no_rose; sink = no_rose }))
   where
     as_told : {T : Type 0} (r : Result T Fault) → TellsSummary (end_of r) status said old new k k' → (end_status (end_of r) ≡ 0) ⊎ (end_status (end_of r) ≡ 6) ⊎ (end_status (end_of r) ≡ 8)

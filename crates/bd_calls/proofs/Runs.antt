@@ -24,7 +24,8 @@ use Rattle.bd_checkpoint.specs.Kept.{AllStandFor}
 use Rattle.bd_checkpoint.specs.Recovering.{IsBadIn}
 use Rattle.bd_view.specs.Views.{View, fresh_view}
 use Rattle.bd_engine.specs.Stored.{HasSaved}
-use Rattle.bd_script.specs.Lines.{LineMeaning, line_of, lines_of}
+use Rattle.bd_script.specs.Lines.{lines_of}
+use Rattle.bd_sessions.specs.Spoken.{Mode, Spoken, spoken}
 use Rattle.bd_volume.specs.Faults.{IsStartCause}
 use Rattle.bd_volume.specs.Starts.{OnlyStarts}
 use Rattle.bd_volume.specs.Volume.{IsFirstView}
@@ -135,39 +136,39 @@ IsIdle (AllDurable stopped) s = s.view.waiting ≡ 0
 IsIdle LeftWaiting s = ⊤
 
 -- how a work on a volume ends: what is told of the state after its last line, and of that at the end
-pub record EndsWork {D : Type 0} (g : Ghosts D) (end : Option Fault) (how : Closing) (asks : List LineMeaning → Type 0) (xs : List Exchange) (first : D) (since : ℕ) (after : Shell D) (u : State)
+pub record EndsWork {D : Type 0} (g : Ghosts D) (end : Option Fault) (how : Closing) (asks : List Spoken → Type 0) (xs : List Exchange) (first : D) (since : ℕ) (after : Shell D) (u : State)
     : Type 0 where
   pub told : IsTold end asks xs u
   pub reached : EndsBy end u (ClosedAt end (ShellAt g first since after) (adds_none how))
   pub idle : end ≡ None → IsIdle how (closed end (adds_none how) (g.call_count (device_in after)) u)
 
 -- what is told by the lines of what was taken, and by those of the script
-tells_script : (end : Option Fault) (u : State) (done lines : List LineMeaning) (taken : List ℕ) (script : Option (List ℕ)) → Tells end u done (lines_to_run taken)
-    → IfSome script (λ bytes. Tells end u done (lines_to_run bytes)) → IsOfScript taken script lines → Tells end u done lines
-tells_script end u done lines taken script by_taken by_script (inl is) = subst (Tells end u done) (sym is) by_taken
-tells_script end u done lines taken None by_taken by_script (inr never) = absurd never
-tells_script end u done lines taken (Some bytes) by_taken by_script (inr is) = subst (Tells end u done) (sym is) by_script
+tells_script : (mode : Mode) (end : Option Fault) (u : State) (done lines : List Spoken) (taken : List ℕ) (script : Option (List ℕ)) → Tells end u done (lines_to_run mode taken)
+    → IfSome script (λ bytes. Tells end u done (lines_to_run mode bytes)) → IsOfScript mode taken script lines → Tells end u done lines
+tells_script mode end u done lines taken script by_taken by_script (inl is) = subst (Tells end u done) (sym is) by_taken
+tells_script mode end u done lines taken None by_taken by_script (inr never) = absurd never
+tells_script mode end u done lines taken (Some bytes) by_taken by_script (inr is) = subst (Tells end u done) (sym is) by_script
 
 module _ {D : Type 0} (g : Ghosts D) where
   closed_at : (stopped : Bool) (u : State) (first : D) (since : ℕ) (shell : Shell D) → ClosedAt None (ShellAt g first since shell) stopped u
       → ShellAt g first since shell (closed None stopped (g.call_count (device_in shell)) u)
   closed_at stopped u first since shell h =
-      closed_now h.calls (g.call_count (device_in shell)) stopped u (ShellAt g first since shell) (λ x at. at.safe.calls) h.reached
+      closed_now h.calls (g.call_count (device_in shell)) stopped u (ShellAt g first since shell) (λ x at. at.volume.safe.calls) h.reached
 
   -- no line's fault ended it
   ended_at : (end : Option Fault) (u : State) (first : D) (since : ℕ) (shell : Shell D) → ((n : ℕ) → CallsAtEnd end n n) → ShellAt g first since shell u
       → IsEnded g end first since (device_in shell) (acks_in shell) u u
   ended_at end u first since shell own at =
-      let same : u.calls ≡ g.call_count (device_in shell) = at.safe.calls in
-      record { view = u.view; calls = u.calls; safe = at.safe; later = omega (arith, same); called = subst (CallsAtEnd end u.calls) same (own u.calls) }
+      let same : u.calls ≡ g.call_count (device_in shell) = at.volume.safe.calls in
+      record { view = u.view; calls = u.calls; safe = at.volume.safe; later = omega (arith, same); called = subst (CallsAtEnd end u.calls) same (own u.calls) }
 
   -- a line's fault did
   ended_left : (end : Option Fault) (u : State) (first : D) (since : ℕ) (shell : Shell D) → ((n k : ℕ) → n ≤ k → CallsAtEnd end n k) → (view : View) (calls : ℕ)
       → u.calls ≤ calls → ShellAt g first since shell (with_view u view calls) → IsEnded g end first since (device_in shell) (acks_in shell) u u
   ended_left end u first since shell more view calls later at =
-      let same : calls ≡ g.call_count (device_in shell) = at.safe.calls in
+      let same : calls ≡ g.call_count (device_in shell) = at.volume.safe.calls in
       let few : u.calls ≤ g.call_count (device_in shell) = omega (arith, later, same) in
-      record { view = view; calls = calls; safe = at.safe; later = few; called = more u.calls (g.call_count (device_in shell)) few }
+      record { view = view; calls = calls; safe = at.volume.safe; later = few; called = more u.calls (g.call_count (device_in shell)) few }
 
   -- what a crash leaves at a session's end
   ended_safe : (end : Option Fault) (stopped : Bool) (u : State) (first : D) (since : ℕ) (shell : Shell D)
@@ -178,9 +179,9 @@ module _ {D : Type 0} (g : Ghosts D) where
       record {
         view = (closed None stopped (g.call_count (device_in shell)) u).view;
         calls = (closed None stopped (g.call_count (device_in shell)) u).calls;
-        safe = at.safe;
-        later = closed_later h.calls (g.call_count (device_in shell)) stopped u h.later h.reached.safe.calls;
-        called = sym at.safe.calls;
+        safe = at.volume.safe;
+        later = closed_later h.calls (g.call_count (device_in shell)) stopped u h.later h.reached.volume.safe.calls;
+        called = sym at.volume.safe.calls;
       }
   ended_safe (Some Device) stopped u first since shell h = ended_left (Some Device) u first since shell (λ n k few. few) h.1.left h.1.calls h.1.later h.1.reached.reached
   ended_safe (Some (Damaged block)) stopped u first since shell h = absurd h
@@ -209,8 +210,8 @@ module _ {D : Type 0} (g : Ghosts D) where
   shown_last None stopped u first since shell none h idle going among saved =
       let x : State = closed None stopped (g.call_count (device_in shell)) u in
       let at : ShellAt g first since shell x = closed_at stopped u first since shell h in
-      shown_by (g.contents (device_in shell)) (left_now g (device_in shell)) (view_in g shell) x at.at.view_is
-      (settled_all g _ x.tree x.count at.at.stands going (ap (λ (v : View). v.waiting) at.at.view_is ∙ idle)) among saved
+      shown_by (g.contents (device_in shell)) (left_now g (device_in shell)) (view_in g shell) x at.volume.at.view_is
+      (settled_all g _ x.tree x.count at.volume.at.stands going (ap (λ (v : View). v.waiting) at.volume.at.view_is ∙ idle)) among saved
   shown_last (Some e) stopped u first since shell none h idle going among saved = cc
 
   shown_closed : (end : Option Fault) (how : Closing) (u : State) (first : D) (since : ℕ) (shell : Shell D) → end ≡ None
@@ -221,8 +222,8 @@ module _ {D : Type 0} (g : Ghosts D) where
   shown_closed end LeftWaiting u first since shell none h idle going among saved = tt
 
   -- a work on a volume that started
-  pub worked_on : (end : Option Fault) (how : Closing) (asks : List LineMeaning → Type 0) (xs : List Exchange) (old : D) (before after : Shell D) → AllByRecursion IsAnswered xs
-      → ((lines : List LineMeaning) × asks lines) → HasAcked (durable (executed xs) + acks_at_end end (adds_none how)) (acks_in before) (acks_in after)
+  pub worked_on : (end : Option Fault) (how : Closing) (asks : List Spoken → Type 0) (xs : List Exchange) (old : D) (before after : Shell D) → AllByRecursion IsAnswered xs
+      → ((lines : List Spoken) × asks lines) → HasAcked (durable (executed xs) + acks_at_end end (adds_none how)) (acks_in before) (acks_in after)
       → ((x : State) → ShellAt g (device_in before) (g.call_count old + 1) before x → HasTranscript x xs (EndsWork g end how asks xs (device_in before) (g.call_count old + 1) after))
       → acks_in before ≡ []
       → ((t : Tree) (n : ℕ) → CanStart t n (g.contents old)
@@ -255,7 +256,7 @@ module _ {D : Type 0} (g : Ghosts D) where
           calls = g.call_count (device_in before);
           begun = inl (record {
             view = if_some (λ i. ImageStandsFor t n i → IsFirstView i (view_in g before)) (g.contents old) image is (views t n) stands;
-            opened = (begins t n start).safe.early;
+            opened = (begins t n start).volume.safe.early;
           });
           run = record {
             entries = h.entries;
@@ -275,8 +276,8 @@ module _ {D : Type 0} (g : Ghosts D) where
   }
 
   -- a session of a volume that started
-  pub ran_session : (end : Option Fault) (old : D) (before after : Shell D) (script rest w1 w2 : Option (List ℕ)) (t1 t2 : Option Takes) (b a : Faults)
-      → Session end (ShellAt g (device_in before) (g.call_count old + 1) before) (ClosedAt end (ShellAt g (device_in before) (g.call_count old + 1) after))
+  pub ran_session : (mode : Mode) (end : Option Fault) (old : D) (before after : Shell D) (script rest w1 w2 : Option (List ℕ)) (t1 t2 : Option Takes) (b a : Faults)
+      → Session mode end (ShellAt g (device_in before) (g.call_count old + 1) before) (ClosedAt end (ShellAt g (device_in before) (g.call_count old + 1) after))
       (acks_at_end end) script rest t1 t2 (output w1 (acks_in before)) (output w2 (acks_in after)) → acks_in before ≡ []
       → ((t : Tree) (n : ℕ) → CanStart t n (g.contents old)
       → ShellAt g (device_in before) (g.call_count old + 1) before (state_at t n (view_in g before) (g.call_count (device_in before))))
@@ -286,8 +287,8 @@ module _ {D : Type 0} (g : Ghosts D) where
       → (0 < g.block_count (device_in after) → IfSome (g.contents (device_in after)) (left_now g (device_in after)))
       → IfSome (g.contents old) (HasBlocks (g.block_count old)) → g.block_count (device_in after) ≡ g.block_count old
       → ((xs : List Exchange) → NamesDamage end xs (g.contents old) (g.contents (device_in after)))
-      → Ran (g.call_count old + 1) end (acks_in after) (ends (disk_of g old) script t1 w1 b) (ends (disk_of g (device_in after)) rest t2 w2 a)
-  ran_session end old before after script rest w1 w2 t1 t2 b a s none_before begins views only going saved may_stay shape same_size damage = record {
+      → Ran mode (g.call_count old + 1) end (acks_in after) (ends (disk_of g old) script t1 w1 b) (ends (disk_of g (device_in after)) rest t2 w2 a)
+  ran_session mode end old before after script rest w1 w2 t1 t2 b a s none_before begins views only going saved may_stay shape same_size damage = record {
     exchanges = s.exchanges;
     fed = record {
       front = s.front;
@@ -303,27 +304,27 @@ module _ {D : Type 0} (g : Ghosts D) where
       read_out = s.read_out;
       replied = s.replied;
     };
-    worked = worked_on end (AllDurable (has_stop s.exchanges)) (IsOfScript s.taken script) s.exchanges old before after s.answered (lines_to_run s.taken, inl refl) s.acked
+    worked = worked_on end (AllDurable (has_stop s.exchanges)) (IsOfScript mode s.taken script) s.exchanges old before after s.answered (lines_to_run mode s.taken, inl refl) s.acked
         (λ x at. by_work x (s.runs x at)) none_before begins views only going saved may_stay shape same_size (damage s.exchanges);
   }
     where
-      idle_at : (e : Option Fault) (xs : List Exchange) (taken : List ℕ) (calls : ℕ) → e ≡ None → Among e taken xs → (x0 : State) (es : List Entry) → IsTranscript x0 es
+      idle_at : (e : Option Fault) (xs : List Exchange) (taken : List ℕ) (calls : ℕ) → e ≡ None → Among mode e taken xs → (x0 : State) (es : List Entry) → IsTranscript x0 es
           → exchanges_of es ≡ xs → (closed e (has_stop xs) calls (state_after x0 es)).view.waiting ≡ 0
       idle_at None xs taken calls none among x0 es transcript is =
           subst (λ ys. (closed None (has_stop ys) calls (state_after x0 es)).view.waiting ≡ 0) is
-          (closed_idle x0 es (map line_of (lines_of taken)) calls transcript (ap executed is ∙ among))
+          (closed_idle x0 es (map (spoken mode) (lines_of taken)) calls transcript (ap executed is ∙ among))
       idle_at (Some e) xs taken calls none among x0 es transcript is = cc
 
-      by_work : (x : State) → HasTranscript x s.exchanges (EndsIn end s.exchanges s.taken script (ClosedAt end (ShellAt g (device_in before) (g.call_count old + 1) after)))
+      by_work : (x : State) → HasTranscript x s.exchanges (EndsIn mode end s.exchanges s.taken script (ClosedAt end (ShellAt g (device_in before) (g.call_count old + 1) after)))
           → HasTranscript x s.exchanges
-          (EndsWork g end (AllDurable (has_stop s.exchanges)) (IsOfScript s.taken script) s.exchanges (device_in before) (g.call_count old + 1) after)
+          (EndsWork g end (AllDurable (has_stop s.exchanges)) (IsOfScript mode s.taken script) s.exchanges (device_in before) (g.call_count old + 1) after)
       by_work x h = record {
         entries = h.entries;
         exchanges_are = h.exchanges_are;
         transcript = h.transcript;
         reached = record {
           told = record {
-            told = λ lines asked. tells_script end (state_after x h.entries) (executed s.exchanges) lines s.taken script h.reached.told h.reached.told_script asked;
+            told = λ lines asked. tells_script mode end (state_after x h.entries) (executed s.exchanges) lines s.taken script h.reached.told h.reached.told_script asked;
           };
           reached = h.reached.reached;
           idle = λ none. idle_at end s.exchanges s.taken (g.call_count (device_in after)) none s.among_taken x h.entries h.transcript h.exchanges_are;
@@ -350,7 +351,7 @@ abbrev pub IsUnmade : ℕ → Disk → Disk → Type 0
 IsUnmade settled before now = (now.calls < settled) ⊎ ((now.calls ≤ settled) × Rose before.write_faults now.write_faults)
 
 -- nothing was executed, whatever was to be: the volume didn't start
-pub worked_refused : (settled : ℕ) (e : Fault) (how : Closing) (asks : List LineMeaning → Type 0) (before now : Disk) → IsLineFault e → ((lines : List LineMeaning) × asks lines)
+pub worked_refused : (settled : ℕ) (e : Fault) (how : Closing) (asks : List Spoken → Type 0) (before now : Disk) → IsLineFault e → ((lines : List Spoken) × asks lines)
     → ((t : Tree) (n : ℕ) (image : Image) → before.image ≡ Some image → ImageStandsFor t n image → (block : ℕ) → e ≡ Damaged block → ⊥)
     → ((t : Tree) (n : ℕ) (image : Image) → before.image ≡ Some image → ImageStandsFor t n image → (which : Counter) → e ≡ Worn which
     → WearsReplaying which image)
@@ -423,15 +424,15 @@ worked_refused settled e how asks before now kind asked sound worn time opened b
     unstarted_by Sink i k sound_at worn = k
 
 -- no line of a script was executed
-pub ran_refused : (settled : ℕ) (e : Fault) (before now : Disk) (script w : Option (List ℕ)) (takes : Option Takes) (b a : Faults) → IsLineFault e
+pub ran_refused : (mode : Mode) (settled : ℕ) (e : Fault) (before now : Disk) (script w : Option (List ℕ)) (takes : Option Takes) (b a : Faults) → IsLineFault e
     → ((t : Tree) (n : ℕ) (image : Image) → before.image ≡ Some image → ImageStandsFor t n image → (block : ℕ) → e ≡ Damaged block → ⊥)
     → ((t : Tree) (n : ℕ) (image : Image) → before.image ≡ Some image → ImageStandsFor t n image → (which : Counter) → e ≡ Worn which
     → WearsReplaying which image)
     → ((t : Tree) (n : ℕ) (image : Image) → before.image ≡ Some image → ImageStandsFor t n image → Elapses before.calls now.calls before.left now.left (ImageStandsFor t n))
     → ((t : Tree) (n : ℕ) (image : Image) → before.image ≡ Some image → ImageStandsFor t n image → AllStandFor t n (now.left settled) ⊎ IsUnmade settled before now)
     → ((block : ℕ) → e ≡ Damaged block → IsBadIn before.image block)
-    → Ran settled (Some e) [] (ends before script takes w b) (ends now script takes w a)
-ran_refused settled e before now script w takes b a kind sound worn time opened bad = record {
+    → Ran mode settled (Some e) [] (ends before script takes w b) (ends now script takes w a)
+ran_refused mode settled e before now script w takes b a kind sound worn time opened bad = record {
   exchanges = [];
   fed = record {
     front = [];
@@ -447,23 +448,23 @@ ran_refused settled e before now script w takes b a kind sound worn time opened 
     read_out = tt;
     replied = unwritten e kind;
   };
-  worked = worked_refused settled e (AllDurable (has_stop [])) (IsOfScript [] script) before now kind (lines_to_run [], inl refl) sound worn time opened bad;
+  worked = worked_refused settled e (AllDurable (has_stop [])) (IsOfScript mode [] script) before now kind (lines_to_run mode [], inl refl) sound worn time opened bad;
 }
   where
-    at_line : (f : Fault) (bs : List ℕ) → IsLineFault f → Among (Some f) bs []
-    at_line Device bs k = (lines_to_run bs, refl)
+    at_line : (f : Fault) (bs : List ℕ) → IsLineFault f → Among mode (Some f) bs []
+    at_line Device bs k = (lines_to_run mode bs, refl)
     at_line (Damaged block) bs k = inl refl
     at_line Source bs k = absurd k
-    at_line Memory bs k = (lines_to_run bs, refl)
+    at_line Memory bs k = (lines_to_run mode bs, refl)
     at_line TooLong bs k = absurd k
     at_line (Worn which) bs k = inl refl
     at_line Sink bs k = absurd k
 
-    all : (f : Fault) (o : Option (List ℕ)) → IsLineFault f → IfSome o (λ bs. Among (Some f) bs [])
+    all : (f : Fault) (o : Option (List ℕ)) → IsLineFault f → IfSome o (λ bs. Among mode (Some f) bs [])
     all f None k = tt
     all f (Some bs) k = at_line f bs k
 
-    few : (f : Fault) → IsLineFault f → TakenAt (Some f) [] []
+    few : (f : Fault) → IsLineFault f → TakenAt mode (Some f) [] []
     few Device k = omega arith
     few (Damaged block) k = omega arith
     few Source k = absurd k
@@ -472,7 +473,7 @@ ran_refused settled e before now script w takes b a kind sound worn time opened 
     few (Worn which) k = omega arith
     few Sink k = absurd k
 
-    unwritten : (f : Fault) → IsLineFault f → Replied (Some f) [] [] [] w w
+    unwritten : (f : Fault) → IsLineFault f → Replied mode (Some f) [] [] [] w w
     unwritten Device k = sym (append_known-nil w)
     unwritten (Damaged block) k = sym (append_known-nil w)
     unwritten Source k = absurd k
@@ -507,13 +508,13 @@ start_worn (volume.Full free need) e which is worn = absurd is
 start_worn (volume.Stopped call) e which is worn = absurd is
 
 -- a start that failed
-pub ran_unstarted : {D : Type 0} (g : Ghosts D) (v : VolumeFault) (e : Fault) (old now : D) (script w : Option (List ℕ)) (takes : Option Takes) (b a : Faults)
+pub ran_unstarted : (mode : Mode) {D : Type 0} (g : Ghosts D) (v : VolumeFault) (e : Fault) (old now : D) (script w : Option (List ℕ)) (takes : Option Takes) (b a : Faults)
     → IsStartFault v e → IsStartCause g old now v → ((t : Tree) (n : ℕ) → CanStart t n (g.contents old) → (block : ℕ) → v ≢ volume.Damaged block)
     → ((t : Tree) (n : ℕ) → IfSome (g.contents old) (λ image. ImageStandsFor t n image → (which : Counter) → v ≡ volume.Worn which → WearsReplaying which image))
     → OnlyStarts g old now → MayStart g old now → IfSome (g.contents old) (HasBlocks (g.block_count old))
-    → Ran (g.call_count old + 1) (Some e) [] (ends (disk_of g old) script takes w b) (ends (disk_of g now) script takes w a)
-ran_unstarted g v e old now script w takes b a fault cause sound wears left starts shape =
-    ran_refused (g.call_count old + 1) e (disk_of g old) (disk_of g now) script w takes b a (start_kind v e fault)
+    → Ran mode (g.call_count old + 1) (Some e) [] (ends (disk_of g old) script takes w b) (ends (disk_of g now) script takes w a)
+ran_unstarted mode g v e old now script w takes b a fault cause sound wears left starts shape =
+    ran_refused mode (g.call_count old + 1) e (disk_of g old) (disk_of g now) script w takes b a (start_kind v e fault)
     (λ t n image is stands block damaged. sound t n (can_start t n (g.contents old) image is stands) block (start_damaged v e block fault damaged))
     (λ t n image is stands which worn. if_some (λ i. ImageStandsFor t n i → (c : Counter) → v ≡ volume.Worn c → WearsReplaying c i) (g.contents old) image is (wears t n)
     stands which (start_worn v e which fault worn))
@@ -539,7 +540,7 @@ acked_named s now old new (a ∷ acks) same h =
     (record { past = h.0.past; few = h.0.few; kept = λ c left. h.0.kept c (same a.calls c left) }, acked_named s now old new acks same h.1)
 
 -- what is left of a work by its image's name, which was attached
-pub worked_attached : (end : Option Fault) (how : Closing) (asks : List LineMeaning → Type 0) (xs : List Exchange) (acks : List Ack) (before mid : Disk) (known shown : Option Image) (calls : ℕ)
+pub worked_attached : (end : Option Fault) (how : Closing) (asks : List Spoken → Type 0) (xs : List Exchange) (acks : List Ack) (before mid : Disk) (known shown : Option Image) (calls : ℕ)
     (since left : ℕ → Image → Type 0) (writes : ℕ) (failed : Bool)
     → mid.image ≡ before.image → mid.calls ≡ before.calls + 1 → mid.write_faults ≡ before.write_faults
     → Elapses before.calls mid.calls before.left mid.left Nothing → shown ≡ known → ((t : ℕ) (c : Image) → left t c ↔ since t c)
@@ -595,25 +596,25 @@ worked_attached end how asks xs acks before mid known shown calls since left wri
         why (inr (few, rose)) = inr (omega (arith, few, same), subst (λ i. Rose i writes) faults_are rose)
 
 -- so of a run
-pub ran_attached : (end : Option Fault) (acks : List Ack) (before mid : Disk) (known shown : Option Image) (calls : ℕ) (since left : ℕ → Image → Type 0) (writes : ℕ) (failed : Bool)
+pub ran_attached : (mode : Mode) (end : Option Fault) (acks : List Ack) (before mid : Disk) (known shown : Option Image) (calls : ℕ) (since left : ℕ → Image → Type 0) (writes : ℕ) (failed : Bool)
     (script rest w1 w2 : Option (List ℕ)) (t1 t2 : Option Takes) (b m a : Faults)
     → mid.image ≡ before.image → mid.calls ≡ before.calls + 1 → mid.write_faults ≡ before.write_faults
     → Elapses before.calls mid.calls before.left mid.left Nothing → shown ≡ known → ((t : ℕ) (c : Image) → left t c ↔ since t c)
-    → Ran (mid.calls + 1) end acks (ends mid script t1 w1 m) (ends (disk known calls since writes failed) rest t2 w2 a)
-    → Ran (before.calls + 2) end acks (ends before script t1 w1 b) (ends (disk shown calls left writes failed) rest t2 w2 a)
-ran_attached end acks before mid known shown calls since left writes failed script rest w1 w2 t1 t2 b m a image_is calls_are faults_are time shows named r = record {
+    → Ran mode (mid.calls + 1) end acks (ends mid script t1 w1 m) (ends (disk known calls since writes failed) rest t2 w2 a)
+    → Ran mode (before.calls + 2) end acks (ends before script t1 w1 b) (ends (disk shown calls left writes failed) rest t2 w2 a)
+ran_attached mode end acks before mid known shown calls since left writes failed script rest w1 w2 t1 t2 b m a image_is calls_are faults_are time shows named r = record {
   exchanges = r.exchanges;
   fed = r.fed;
-  worked = worked_attached end (AllDurable (has_stop r.exchanges)) (IsOfScript r.fed.taken script) r.exchanges acks before mid known shown calls since left writes failed image_is
+  worked = worked_attached end (AllDurable (has_stop r.exchanges)) (IsOfScript mode r.fed.taken script) r.exchanges acks before mid known shown calls since left writes failed image_is
       calls_are faults_are time shows named r.worked;
 }
 
 -- an attach that failed
-pub ran_detached : (before now : Disk) (script w : Option (List ℕ)) (takes : Option Takes) (b a : Faults) → now.calls ≡ next_count before.calls
+pub ran_detached : (mode : Mode) (before now : Disk) (script w : Option (List ℕ)) (takes : Option Takes) (b a : Faults) → now.calls ≡ next_count before.calls
     → Elapses before.calls now.calls before.left now.left Nothing
-    → Ran (before.calls + 2) (Some Device) [] (ends before script takes w b) (ends now script takes w a)
-ran_detached before now script w takes b a once time =
-    ran_refused (before.calls + 2) Device before now script w takes b a tt (λ t n image is stands block damaged. cc) (λ t n image is stands which worn. cc)
+    → Ran mode (before.calls + 2) (Some Device) [] (ends before script takes w b) (ends now script takes w a)
+ran_detached mode before now script w takes b a once time =
+    ran_refused mode (before.calls + 2) Device before now script w takes b a tt (λ t n image is stands block damaged. cc) (λ t n image is stands which worn. cc)
     (λ t n image is stands. within Nothing (ImageStandsFor t n) time (λ c none. absurd none))
     (λ t n image is stands. inr (inl (omega (arith, once, next_few before.calls)))) (λ block damaged. cc)
   where
@@ -672,7 +673,7 @@ too_long script (Some more) taken long is short =
     omega (arith, few, long, length-append taken more)
 
 -- an image that is known and stands for a tree has no damage
-pub undamaged : (settled block : ℕ) (how : Closing) (asks : List LineMeaning → Type 0) (xs : List Exchange) (acks : List Ack) (before now : Disk)
+pub undamaged : (settled block : ℕ) (how : Closing) (asks : List Spoken → Type 0) (xs : List Exchange) (acks : List Ack) (before now : Disk)
     → Worked settled (Some (Damaged block)) how asks xs acks before now → IsSomeAnd before.image HasStart → ⊥
 undamaged settled block how asks xs acks before now r h = at before.image refl h
   where
@@ -685,25 +686,25 @@ undamaged settled block how asks xs acks before now r h = at before.image refl h
     at (Some i) is k = never _ i (r.transcribed k.0 k.1 i is k.2).run.reached.told
 
 -- without a failure of the outside memory or a counter ended the run, if a fault did
-faultless_run : (settled : ℕ) (e : Fault) (acks : List Ack) (from now : Ends) (before ended : Faults) (later : ℕ) (last : Bool) → Ran settled (Some e) acks from now
+faultless_run : (mode : Mode) (settled : ℕ) (e : Fault) (acks : List Ack) (from now : Ends) (before ended : Faults) (later : ℕ) (last : Bool) → Ran mode settled (Some e) acks from now
     → Caused e before ended last → ended.sink ≤ later → IsSomeAnd from.disk.image HasStart → IsSomeAnd from.script (λ bytes. length bytes ≤ script_limit)
     → IsFaultless before (faults ended.device ended.source later) → (status_of e ≡ 6) ⊎ (status_of e ≡ 8)
-faultless_run settled Device acks from now before ended later last r cause k stands short f = absurd (f.device (rose_next before.device ended.device cause.0))
-faultless_run settled (Damaged block) acks from now before ended later last r cause k stands short f =
-    absurd (undamaged settled block (AllDurable (has_stop r.exchanges)) (IsOfScript r.fed.taken from.script) r.exchanges acks from.disk now.disk r.worked stands)
-faultless_run settled Source acks from now before ended later last r cause k stands short f = absurd (f.source cause.0)
-faultless_run settled Memory acks from now before ended later last r cause k stands short f = inl refl
-faultless_run settled TooLong acks from now before ended later last r cause k stands short f = absurd (too_long from.script now.script r.fed.taken r.fed.taken_at.0 r.fed.script_is short)
-faultless_run settled (Worn which) acks from now before ended later last r cause k stands short f = inr refl
-faultless_run settled Sink acks from now before ended later last r cause k stands short f = absurd (f.sink (rose_later before.sink ended.sink later k cause.0))
+faultless_run mode settled Device acks from now before ended later last r cause k stands short f = absurd (f.device (rose_next before.device ended.device cause.0))
+faultless_run mode settled (Damaged block) acks from now before ended later last r cause k stands short f =
+    absurd (undamaged settled block (AllDurable (has_stop r.exchanges)) (IsOfScript mode r.fed.taken from.script) r.exchanges acks from.disk now.disk r.worked stands)
+faultless_run mode settled Source acks from now before ended later last r cause k stands short f = absurd (f.source cause.0)
+faultless_run mode settled Memory acks from now before ended later last r cause k stands short f = inl refl
+faultless_run mode settled TooLong acks from now before ended later last r cause k stands short f = absurd (too_long from.script now.script r.fed.taken r.fed.taken_at.0 r.fed.script_is short)
+faultless_run mode settled (Worn which) acks from now before ended later last r cause k stands short f = inr refl
+faultless_run mode settled Sink acks from now before ended later last r cause k stands short f = absurd (f.sink (rose_later before.sink ended.sink later k cause.0))
 
-pub run_complete : {T : Type 0} (r : Result T Fault) (settled status : ℕ) (acks : List Ack) (from now : Ends) (before ended : Faults) (later : ℕ) (last : Bool)
-    → status ≡ end_status (end_of r) → Ran settled (end_of r) acks from now → IsCaused before ended last r → ended.sink ≤ later
+pub run_complete : (mode : Mode) {T : Type 0} (r : Result T Fault) (settled status : ℕ) (acks : List Ack) (from now : Ends) (before ended : Faults) (later : ℕ) (last : Bool)
+    → status ≡ end_status (end_of r) → Ran mode settled (end_of r) acks from now → IsCaused before ended last r → ended.sink ≤ later
     → IsSomeAnd from.disk.image HasStart × IsSomeAnd from.script (λ bytes. length bytes ≤ script_limit)
     → IsFaultless before (faults ended.device ended.source later) → (status ≡ 0) ⊎ (status ≡ 6) ⊎ (status ≡ 8)
-run_complete (Ok x) settled status acks from now before ended later last is ran cause k ready f = inl is
-run_complete (Err e) settled status acks from now before ended later last is ran cause k ready f =
-    either_status is (faultless_run settled e acks from now before ended later last ran cause.cause k ready.0 ready.1 f)
+run_complete mode (Ok x) settled status acks from now before ended later last is ran cause k ready f = inl is
+run_complete mode (Err e) settled status acks from now before ended later last is ran cause k ready f =
+    either_status is (faultless_run mode settled e acks from now before ended later last ran cause.cause k ready.0 ready.1 f)
   where
     either_status : {s of : ℕ} → s ≡ of → (of ≡ 6) ⊎ (of ≡ 8) → (s ≡ 0) ⊎ (s ≡ 6) ⊎ (s ≡ 8)
     either_status same (inl six) = inr (inl (same ∙ six))

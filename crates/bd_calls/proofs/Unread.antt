@@ -6,6 +6,7 @@ use Rattle.bd_device.specs.Blocks.{Image}
 use Rattle.bd_device.specs.Moments.{Elapses}
 use Rattle.bd_device.specs.declared.device.Device.{Ghosts}
 use Rattle.bd_words.specs.Words.{Call, Run, Format, Fill, Check, Export, Import, Serve}
+use Rattle.bd_sessions.specs.Spoken.{Single}
 use Rattle.bd_shell.specs.declared.fault.Fault.{Fault}
 use Rattle.bd_shell.specs.declared.fault.Fault.TheVariants.{Memory, Sink}
 use Rattle.bd_shell.specs.declared.outcome.Ack.{Ack}
@@ -51,7 +52,7 @@ does_unread (Run image) d script w w' takes b a status acks is none last offered
   status_is = is;
   replies = w;
   ended = b;
-  ran = ran_refused (d.calls + 2) Memory d d script w takes b b tt (λ t n image is stands block damaged. cc) (λ t n image is stands which worn. cc)
+  ran = ran_refused Single (d.calls + 2) Memory d d script w takes b b tt (λ t n image is stands block damaged. cc) (λ t n image is stands which worn. cc)
       (λ t n image is stands. idle d.calls d.left _) (λ t n image is stands. inr (inl (omega arith))) (λ block damaged. cc);
   cause = refl;
   last = last;

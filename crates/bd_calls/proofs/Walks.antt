@@ -1,25 +1,42 @@
 -- What each line of a transcript costs.
 use Rattle.std.proofs.Common.{◌≡◌, ℕ, ◌+◌, ◌*◌, ◌≤◌, Bool, true, false, List, [], ◌∷◌, refl, sym, ap, subst, ◌∙◌}
 use Rattle.std.specs.Prelude.{◌&&◌, MatchBool}
+use Rattle.std.specs.declared.option.Option.{Option}
+use Rattle.std.specs.declared.result.Result.{Result}
 use Rattle.std.specs.declared.result.Result.TheVariants.{Ok, Err}
 use Rattle.bd_command.specs.Command.{is_done}
 use Rattle.bd_command.specs.declared.Command.{Command}
 use Rattle.bd_command.specs.declared.Command.TheVariants.{Mkdir, Create, Write, Truncate, Remove, Rename, Clone, Chmod, Read, Stat, List as Ls}
 use Rattle.bd_command.specs.declared.reply.Reply.{Reply}
 use Rattle.bd_message.specs.declared.message.Message.{Message}
-use Rattle.bd_model.specs.Tree.{Tree}
+use Rattle.bd_model.specs.Tree.{Path, Tree}
 use Rattle.bd_model.specs.Step.{step}
 use Rattle.bd_script.specs.Lines.{LineMeaning}
+use Rattle.bd_script.specs.declared.denial.Denial.{Denial}
+use Rattle.bd_script.specs.declared.denial.Denial.TheVariants as denial
+use Rattle.bd_script.specs.declared.line.Line.{Line}
 use Rattle.bd_script.specs.declared.line.Line.TheVariants.{Run, Walk, Df, Sync, Checkpoint, Reclaim, Stop}
 use Rattle.bd_script.specs.declared.replies.LineReply.{LineReply}
 use Rattle.bd_script.specs.declared.replies.LineReply.TheVariants as reply
+use Rattle.bd_sessions.specs.Handles.{handle_at, table_in}
+use Rattle.bd_sessions.specs.Sessions.{ask_at, closing, path_of_handle}
+use Rattle.bd_sessions.specs.Spoken.{client_or_none}
+use Rattle.bd_sessions.specs.Telling.{DoesAsk, DoesTurn}
+use Rattle.bd_sessions.specs.Turns.{TurnMeaning}
+use Rattle.bd_sessions.specs.declared.asking.Ask.TheVariants as ask
+use Rattle.bd_sessions.specs.declared.handle.Handle.{Handle}
+use Rattle.bd_sessions.specs.declared.handle.Handle.TheVariants.{Free, At, Gone}
+use Rattle.bd_sessions.specs.declared.replies.TurnReply.{TurnReply}
+use Rattle.bd_sessions.specs.declared.replies.TurnReply.TheVariants as turn_reply
+use Rattle.bd_sessions.specs.declared.turn.Turn.{Turn}
+use Rattle.bd_sessions.specs.declared.turn.Turn.TheVariants as turn
 use Rattle.bd_view.specs.Trees.{HasAppended}
 use Rattle.bd_view.specs.Views.{View}
 use Rattle.bd_view.specs.Moves.{Saves, IsExecuted, IsAccepted, logged}
 use Rattle.bd_view.specs.Reclaiming.{IsReclaim}
 use Rattle.bd_view.specs.Reclaiming.IsReclaimFull.{first, edge, last}
 use Rattle.bd_view.proofs.Standing.{steps_walk, reclaims_walk}
-use Rattle.bd_shell.specs.Transcript.{State, Entry, Answers, Serves, FillsCheckpoint, FillsReclaim, Follows, Moves, IsTranscript, grafts, is_made, IsCheap, AreCheap}
+use Rattle.bd_shell.specs.Transcript.{State, Entry, Answers, Serves, FillsCheckpoint, FillsReclaim, Follows, Moves, IsTranscript, doing, grafts, is_grafted, is_grafted_line, is_made, passes, IsCheap, AreCheap}
 
 -- what is sent after steps keeps the walk, and so does what isn't accepted
 appended_keeps : (b : Bool) (t : Tree) (c : Command) (list : List Message) (old new : View)
@@ -93,17 +110,99 @@ full_reclaim_keeps free need v w (first full) = refl
 full_reclaim_keeps free need v w (edge pushes change _ h next short free_is need_is unsaved) = reclaims_walk pushes v w h
 full_reclaim_keeps free need v w (last pushes _ h whole full) = reclaims_walk pushes v w h
 
-cheap_one : (s : State) (l : LineMeaning) (said : LineReply) (after : State) → Follows s l said after
-    → IsCheap l said s.view.tree.walk after.view.tree.walk
-cheap_one s (Ok (Run c)) said after h = answers_cheap s c said after h
-cheap_one s (Ok Walk) said after h = ap (λ (t : State). t.view.tree.walk) h.1
-cheap_one s (Ok Df) said after h = ap (λ (t : State). t.view.tree.walk) h.1
-cheap_one s (Ok Sync) said after h = ap (λ (t : State). t.view.tree.walk) h.1
-cheap_one s (Ok Checkpoint) said after h = serves_keeps Saves FillsCheckpoint s said after saves_keep full_checkpoint_keeps h
-cheap_one s (Ok Reclaim) said after h = serves_keeps IsReclaim FillsReclaim s said after reclaim_keeps full_reclaim_keeps h
-cheap_one s (Ok Stop) said after h = ap (λ (t : State). t.view.tree.walk) h.1
-cheap_one s (Err refusal) said after h = ap (λ (t : State). t.view.tree.walk) h.1
+-- what a line of a script costs
+abbrev IsCheapLine : LineMeaning → LineReply → View → View → Type 0
+IsCheapLine line said old new = MatchBool (is_grafted_line line said) (new.tree.walk.visits ≤ 5 * new.tree.walk.height + 2) (new.tree.walk ≡ old.tree.walk)
+
+cheap_line : (s : State) (l : LineMeaning) (said : LineReply) (after : State) → Follows s l said after → IsCheapLine l said s.view after.view
+cheap_line s (Ok (Run c)) said after h = answers_cheap s c said after h
+cheap_line s (Ok Walk) said after h = ap (λ (t : State). t.view.tree.walk) h.1
+cheap_line s (Ok Df) said after h = ap (λ (t : State). t.view.tree.walk) h.1
+cheap_line s (Ok Sync) said after h = ap (λ (t : State). t.view.tree.walk) h.1
+cheap_line s (Ok Checkpoint) said after h = serves_keeps Saves FillsCheckpoint s said after saves_keep full_checkpoint_keeps h
+cheap_line s (Ok Reclaim) said after h = serves_keeps IsReclaim FillsReclaim s said after reclaim_keeps full_reclaim_keeps h
+cheap_line s (Ok Stop) said after h = ap (λ (t : State). t.view.tree.walk) h.1
+cheap_line s (Err refusal) said after h = ap (λ (t : State). t.view.tree.walk) h.1
+
+-- ---- commands for handles
+
+-- what is no clone or rename keeps the walk, whatever its reply is
+never_made : (c : Command) (said : LineReply) → grafts c ≡ false → is_made c said ≡ false
+never_made c (reply.Command r) never = ap (λ b. b && is_done r) never
+never_made c (reply.Unread refusal) never = refl
+never_made c (reply.Walk visits height) never = refl
+never_made c reply.Done never = refl
+never_made c (reply.Free free slots) never = refl
+never_made c (reply.Full free need) never = refl
+never_made c reply.Stopped never = refl
+
+module _ (s : State) (client : ℕ) (t : Turn) (said : TurnReply) (after : State) where
+  -- such a command, or none
+  keeps_walk : (c : Command) → grafts c ≡ false → DoesAsk doing s client t (ask.Do c) said after → after.view.tree.walk ≡ s.view.tree.walk
+  keeps_walk c never h =
+      ap (λ (u : State). u.view.tree.walk) h.keeps
+      ∙ subst (λ b. MatchBool b (h.middle.view.tree.walk.visits ≤ 5 * h.middle.view.tree.walk.height + 2) (h.middle.view.tree.walk ≡ s.view.tree.walk)) (never_made c h.line never)
+      (answers_cheap s c h.line h.middle h.answered)
+
+  keeps_denied : (d : Denial) → DoesAsk doing s client t (ask.No d) said after → after.view.tree.walk ≡ s.view.tree.walk
+  keeps_denied d h = ap (λ (u : State). u.view.tree.walk) h.1
+
+  keeps_handle : (at : Path → Command) → ((p : Path) → grafts (at p) ≡ false) → (r : Result Path Denial) → DoesAsk doing s client t (ask_at at r) said after
+      → after.view.tree.walk ≡ s.view.tree.walk
+  keeps_handle at never (Ok path) g = keeps_walk (at path) (never path) g
+  keeps_handle at never (Err denial) g = keeps_denied denial g
+
+  keeps_close : (h : Handle) → DoesAsk doing s client t (closing h) said after → after.view.tree.walk ≡ s.view.tree.walk
+  keeps_close Free g = keeps_denied denial.NoHandle g
+  keeps_close (At path) g = ap (λ (u : State). u.view.tree.walk) g.1
+  keeps_close Gone g = ap (λ (u : State). u.view.tree.walk) g.1
+
+-- ---- turns
+
+module _ (s : State) (client : Option ℕ) (said : TurnReply) (after : State) where
+  -- the turn of a line of a script
+  cheap_plain : (l : Line) (r : LineReply) (middle : State) → said ≡ turn_reply.Line r → after.view ≡ middle.view → Follows s (Ok l) r middle
+      → IsCheap (record { client = client; turn = Ok (turn.Plain l) }) said s.view.tree.walk after.view.tree.walk
+  cheap_plain l r middle says same h =
+      subst (λ u. IsCheap (record { client = client; turn = Ok (turn.Plain l) }) u s.view.tree.walk after.view.tree.walk) (sym says)
+      (subst (λ w. IsCheapLine (Ok l) r s.view w) (sym same) (cheap_line s (Ok l) r middle h))
+
+  -- any other turn, which keeps the walk
+  cheap_kept : (t : TurnMeaning) → ((r : LineReply) → passes (λ l. is_grafted_line l r) t ≡ false) → after.view.tree.walk ≡ s.view.tree.walk
+      → IsCheap (record { client = client; turn = t }) said s.view.tree.walk after.view.tree.walk
+  cheap_kept t never same = subst (λ b. MatchBool b (after.view.tree.walk.visits ≤ 5 * after.view.tree.walk.height + 2) (after.view.tree.walk ≡ s.view.tree.walk)) (sym (none said)) same
+    where
+      none : (u : TurnReply) → is_grafted (record { client = client; turn = t }) u ≡ false
+      none (turn_reply.Line r) = never r
+      none (turn_reply.Opened number) = refl
+      none turn_reply.Closed = refl
+      none (turn_reply.No denial) = refl
+
+  cheap_turn : (t : TurnMeaning) → DoesTurn doing s (client_or_none client) t said after
+      → IsCheap (record { client = client; turn = t }) said s.view.tree.walk after.view.tree.walk
+  cheap_turn (Ok (turn.Plain (Run c))) h = cheap_plain (Run c) h.line h.middle h.says (ap (λ (u : State). u.view) h.keeps) h.answered
+  cheap_turn (Ok (turn.Plain Walk)) h = cheap_plain Walk h.line after h.says refl h.served
+  cheap_turn (Ok (turn.Plain Df)) h = cheap_plain Df h.line after h.says refl h.served
+  cheap_turn (Ok (turn.Plain Sync)) h = cheap_plain Sync h.line after h.says refl h.served
+  cheap_turn (Ok (turn.Plain Checkpoint)) h = cheap_plain Checkpoint h.line after h.says refl h.served
+  cheap_turn (Ok (turn.Plain Reclaim)) h = cheap_plain Reclaim h.line after h.says refl h.served
+  cheap_turn (Ok (turn.Plain Stop)) h = cheap_plain Stop h.line after h.says refl h.served
+  cheap_turn (Ok (turn.Open path)) h =
+      cheap_kept (Ok (turn.Open path)) (λ r. refl) (keeps_walk s (client_or_none client) (turn.Open path) said after (Stat path) refl h)
+  cheap_turn (Ok (turn.Read handle off len)) h =
+      cheap_kept (Ok (turn.Read handle off len)) (λ r. refl)
+      (keeps_handle s (client_or_none client) (turn.Read handle off len) said after (λ p. Read p off len) (λ p. refl) (path_of_handle (handle_at (table_in s.kept (client_or_none client)) handle)) h)
+  cheap_turn (Ok (turn.Write handle off bytes)) h =
+      cheap_kept (Ok (turn.Write handle off bytes)) (λ r. refl)
+      (keeps_handle s (client_or_none client) (turn.Write handle off bytes) said after (λ p. Write p off bytes) (λ p. refl) (path_of_handle (handle_at (table_in s.kept (client_or_none client)) handle)) h)
+  cheap_turn (Ok (turn.Stat handle)) h =
+      cheap_kept (Ok (turn.Stat handle)) (λ r. refl)
+      (keeps_handle s (client_or_none client) (turn.Stat handle) said after Stat (λ p. refl) (path_of_handle (handle_at (table_in s.kept (client_or_none client)) handle)) h)
+  cheap_turn (Ok (turn.Close handle)) h =
+      cheap_kept (Ok (turn.Close handle)) (λ r. refl)
+      (keeps_close s (client_or_none client) (turn.Close handle) said after (handle_at (table_in s.kept (client_or_none client)) handle) h)
+  cheap_turn (Err refusal) h = cheap_kept (Err refusal) (λ r. refl) (ap (λ (u : State). u.view.tree.walk) h.1)
 
 pub each_cheap : (s : State) (es : List Entry) → IsTranscript s es → AreCheap s es
 each_cheap s [] h = tt
-each_cheap s (e ∷ es) h = (cheap_one s e.line e.said e.state h.0.follows, each_cheap e.state es h.1)
+each_cheap s (e ∷ es) h = (cheap_turn s e.line.client e.said e.state e.line.turn h.0.follows, each_cheap e.state es h.1)

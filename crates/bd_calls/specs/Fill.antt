@@ -1,5 +1,6 @@
 -- What filling an image says in place of its replies.
-use Rattle.std.specs.Prelude.{◌≡◌, ◌⊎◌, ℕ, List, ◌++◌, map, ⊤}
+use Rattle.std.specs.Prelude.{◌≡◌, ◌⊎◌, ℕ, List, [], ◌∷◌, ◌++◌, ⊤}
+use Rattle.std.specs.List.{flat_map}
 use Rattle.std.specs.Io.KnownBytes.{append_known}
 use Rattle.std.specs.declared.option.Option.{Option}
 use Rattle.std.specs.declared.option.Option.TheVariants.{None, Some}
@@ -8,14 +9,23 @@ use Rattle.std.specs.declared.result.Result.TheVariants.{Ok, Err}
 use Rattle.bd_io.specs.Cause.{Rose}
 use Rattle.bd_io.specs.Written.{WrotePart}
 use Rattle.bd_script.specs.declared.replies.LineReply.{LineReply}
+use Rattle.bd_sessions.specs.declared.replies.TurnReply.{TurnReply}
+use Rattle.bd_sessions.specs.declared.replies.TurnReply.TheVariants as turn_reply
 use Rattle.bd_shell.specs.declared.fault.Fault.{Fault}
 use Rattle.bd_shell.specs.declared.fault.Fault.TheVariants.{Device, Damaged, Source, Memory, TooLong, Worn, Sink}
 use Rattle.bd_shell.specs.Fault.{status_of, fault_line}
 use Rattle.bd_shell.specs.Transcript.{Known, Exchange}
 
--- the replies to the lines that were executed
+-- the reply to a line of a script
+abbrev pub line_said : TurnReply → List LineReply
+line_said (turn_reply.Line r) = r ∷ []
+line_said (turn_reply.Opened number) = []
+line_said turn_reply.Closed = []
+line_said (turn_reply.No denial) = []
+
+-- the replies to the lines that were executed, each of which is a line of a script
 abbrev pub said_in : List Exchange → List LineReply
-said_in xs = map (λ x. x.said) xs
+said_in xs = flat_map (λ x. line_said x.said) xs
 
 -- the lines of a generated script may end by this fault: its source fails for want of memory alone,
 -- it isn't too long, and the sink that counts its replies doesn't fail

@@ -13,7 +13,7 @@ use Rattle.bd_device.specs.Memory.{MemoryDevice, attached_image, attached_size, 
 use Rattle.bd_device.specs.declared.device.Device.{Ghosts}
 use Rattle.bd_slots.specs.Layout.{image_blocks}
 use Rattle.bd_image.specs.ImageTree.{ImageStandsFor}
-use Rattle.bd_script.specs.Lines.{LineMeaning}
+use Rattle.bd_sessions.specs.Spoken.{Spoken, Mode, Single}
 use Rattle.bd_fill.specs.Scripts.{generated_script}
 use Rattle.bd_fill.specs.Summary.{summary}
 use Rattle.bd_words.specs.Words.{Call, Run, Format, Fill, Check, Export, Import, Serve}
@@ -92,7 +92,7 @@ IsFlushed waiting before now = (waiting ≡ 0) ⊎ Rose before now
 -- how the lines that were executed stand to a script, of which `script` is left of the source
 -- before and `rest` after, and to how it was asked for; and what was written of their replies. A
 -- script is read to its end where its lines end well without a `stop`
-pub record Fed (end : Option Fault) (xs : List Exchange) (script rest : Known)
+pub record Fed (mode : Mode) (end : Option Fault) (xs : List Exchange) (script rest : Known)
     (before now : Option Takes) (old new : Known) : Type 0 where
   pub front : List ℕ
   pub final : List ℕ
@@ -100,38 +100,38 @@ pub record Fed (end : Option Fault) (xs : List Exchange) (script rest : Known)
   pub taken_is : taken ≡ front ++ final
   pub script_is : script ≡ prepend_known taken rest
   pub took : Took front final before now
-  pub begins : BeginsWith front xs
-  pub among_taken : Among end taken xs
-  pub among_script : IfSome script (λ bytes. Among end bytes xs)
-  pub taken_at : TakenAt end taken xs
+  pub begins : BeginsWith mode front xs
+  pub among_taken : Among mode end taken xs
+  pub among_script : IfSome script (λ bytes. Among mode end bytes xs)
+  pub taken_at : TakenAt mode end taken xs
   pub read_out : ReadOut end xs final rest
-  pub replied : Replied end front taken xs old new
+  pub replied : Replied mode end front taken xs old new
 
 -- the lines are those of what was taken of a script, or of the whole script, where it is known
-abbrev pub IsOfScript : List ℕ → Known → List LineMeaning → Type 0
-IsOfScript taken script lines = (lines ≡ lines_to_run taken)
-    ⊎ IsSomeAnd script (λ bytes. lines ≡ lines_to_run bytes)
+abbrev pub IsOfScript : Mode → List ℕ → Known → List Spoken → Type 0
+IsOfScript mode taken script lines = (lines ≡ lines_to_run mode taken)
+    ⊎ IsSomeAnd script (λ bytes. lines ≡ lines_to_run mode bytes)
 
 -- the lines of a script that were executed, each with its reply: how they stand to the script and
 -- to what was written, and what they did on the volume; where no fault comes all is made durable.
 -- The barrier with which the volume starts returns after so many calls
-pub record Ran (settled : ℕ) (end : Option Fault) (acks : List Ack) (before now : Ends)
-    : Type 0 where
+pub record Ran (mode : Mode) (settled : ℕ) (end : Option Fault) (acks : List Ack)
+    (before now : Ends) : Type 0 where
   pub exchanges : List Exchange
-  pub fed : Fed end exchanges before.script now.script before.takes now.takes before.written
+  pub fed : Fed mode end exchanges before.script now.script before.takes now.takes before.written
       now.written
   pub worked : Worked settled end (AllDurable (has_stop exchanges))
-      (IsOfScript fed.taken before.script) exchanges acks before.disk now.disk
+      (IsOfScript mode fed.taken before.script) exchanges acks before.disk now.disk
 
 -- how a run went: what ended it, to which its status and its last line are tied, and what was
 -- executed, with the replies and the counts of faults before the last line. The first call of the
 -- device is the attach, and the second the barrier with which the volume starts
-pub record Went (status : ℕ) (acks : List Ack) (before now : Ends) : Type 0 where
+pub record Went (mode : Mode) (status : ℕ) (acks : List Ack) (before now : Ends) : Type 0 where
   pub end : Option Fault
   pub status_is : status ≡ end_status end
   pub replies : Known
   pub ended : Faults
-  pub ran : Ran (before.disk.calls + 2) end acks before (before_last now replies ended)
+  pub ran : Ran mode (before.disk.calls + 2) end acks before (before_last now replies ended)
   pub cause : IfSome end (λ e. Caused e before.faults ended now.disk.last_failed)
   pub last : WritesEnd end replies now.written ended now.faults
 
@@ -159,7 +159,7 @@ pub record RanGenerated (seed count : ℕ) (end : Option Fault) (acks : List Ack
     (before now : Disk) : Type 0 where
   pub left : Known
   pub replies : Known
-  pub ran : Ran (before.calls + 2) end acks
+  pub ran : Ran Single (before.calls + 2) end acks
       (apart before (Some (generated_script seed count)) (Some [])) (apart now left replies)
   pub kind : CanEndLines end
   pub said_is : said ≡ summary (said_in ran.exchanges)
@@ -199,7 +199,7 @@ pub record Unread (status : ℕ) (acks : List Ack) (before now : Ends) : Type 0 
 -- how a call went; where its words weren't read a run and a format end as by want of memory later,
 -- and a fill without a summary. The calls that aren't offered never go
 abbrev pub Does : Call → ℕ → List Ack → Ends → Ends → Type 0
-Does (Run image) status acks before now = Went status acks before now
+Does (Run image) status acks before now = Went Single status acks before now
 Does (Format image slots) status acks before now = Formatted status acks before now
 Does (Fill image seed count) status acks before now =
     Filled seed count status acks before now ⊎ Unread status acks before now

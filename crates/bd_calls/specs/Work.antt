@@ -11,7 +11,7 @@ use Rattle.bd_view.specs.Views.{View}
 use Rattle.bd_image.specs.ImageTree.{ImageStandsFor}
 use Rattle.bd_checkpoint.specs.Recovering.{IsBadIn}
 use Rattle.bd_engine.specs.Stored.{HasSaved}
-use Rattle.bd_script.specs.Lines.{LineMeaning}
+use Rattle.bd_sessions.specs.Spoken.{Spoken}
 use Rattle.bd_volume.specs.Volume.{IsFirstView}
 use Rattle.bd_volume.specs.Wears.{WearsReplaying}
 use Rattle.bd_shell.specs.declared.fault.Fault.{Fault}
@@ -81,9 +81,9 @@ adds_none LeftWaiting = true
 
 -- what is told of the state by each list of lines that were to be executed, those of which `asks`
 -- holds: damage never comes, and a counter is worn by a next one of them
-pub record IsTold (end : Option Fault) (asks : List LineMeaning → Type 0) (xs : List Exchange)
+pub record IsTold (end : Option Fault) (asks : List Spoken → Type 0) (xs : List Exchange)
     (s : State) : Type 0 where
-  pub told : (lines : List LineMeaning) → asks lines → Tells end s (executed xs) lines
+  pub told : (lines : List Spoken) → asks lines → Tells end s (executed xs) lines
 
 -- the device's calls at an end, beside those of the last state: more of them may only be of a line
 -- that failed
@@ -138,7 +138,7 @@ NamesDamage (Some Sink) xs before now = ⊤
 -- what is told of the state after the last line, and of that at the end, where no fault came: the
 -- device's calls are its own, and where all was made durable what is shown then stands for it
 pub record IsLast (settled : ℕ) (end : Option Fault) (how : Closing)
-    (asks : List LineMeaning → Type 0) (xs : List Exchange) (acks : List Ack) (image : Image)
+    (asks : List Spoken → Type 0) (xs : List Exchange) (acks : List Ack) (image : Image)
     (before now : Disk) (s : State) : Type 0 where
   pub told : IsTold end asks xs s ⊎ HasNotStarted end xs image
   pub later : s.calls ≤ now.calls
@@ -157,7 +157,7 @@ pub record HasBegun (settled : ℕ) (image : Image) (first : View) (calls : ℕ)
 -- from an image that stands for a tree the lines with their replies are those of one transcript,
 -- which begins where the volume started, unless it didn't
 pub record Transcribed (settled : ℕ) (t : Tree) (n : ℕ) (image : Image) (end : Option Fault)
-    (how : Closing) (asks : List LineMeaning → Type 0) (xs : List Exchange) (acks : List Ack)
+    (how : Closing) (asks : List Spoken → Type 0) (xs : List Exchange) (acks : List Ack)
     (before now : Disk) : Type 0 where
   pub first : View
   pub calls : ℕ
@@ -172,10 +172,10 @@ pub record Transcribed (settled : ℕ) (t : Tree) (n : ℕ) (image : Image) (end
 -- for a tree, these lines have their transcript. The barrier with which the volume starts returns
 -- after `settled` calls of the device
 pub record Worked (settled : ℕ) (end : Option Fault) (how : Closing)
-    (asks : List LineMeaning → Type 0) (xs : List Exchange) (acks : List Ack)
+    (asks : List Spoken → Type 0) (xs : List Exchange) (acks : List Ack)
     (before now : Disk) : Type 0 where
   pub answered : AllByRecursion IsAnswered xs
-  pub asked : (lines : List LineMeaning) × asks lines
+  pub asked : (lines : List Spoken) × asks lines
   pub acked : length acks ≡ durable (executed xs) + acks_at_end end (adds_none how)
   pub damage : NamesDamage end xs before.image now.image
   pub transcribed : (t : Tree) (n : ℕ) (image : Image) → before.image ≡ Some image

@@ -3,6 +3,7 @@ ghost use Rattle.bd_device.specs.Device.{Stays};
 ghost use Rattle.bd_io.specs.Cause.{next_count};
 ghost use Rattle.bd_words.specs.Line.{AreTaken};
 ghost use Rattle.bd_words.specs.Words.{Call, HasForm};
+ghost use Rattle.bd_sessions.specs.Spoken.{Single};
 ghost use Rattle.bd_shell.specs.declared.fault.Fault.{Fault};
 ghost use Rattle.bd_shell.specs.Fault.{faults, NeverFall, IsCaused, status_of};
 ghost use Rattle.bd_shell.specs.Session.{end_of};
@@ -46,7 +47,7 @@ pub fn run_image<D: Attach, S: Source, K: Sink>(
     src: &mut S,
     sink: &mut K,
 ) -> Ended
-    ensures ran { Ran (D.call_count dev.old + 2) (end_of result.result) result.acks
+    ensures ran { Ran Single (D.call_count dev.old + 2) (end_of result.result) result.acks
         (ends (disk (D.shows dev.old image.now) (D.call_count dev.old)
         (D.left_behind dev.old image.now) (D.write_fault_count dev.old)
         (D.last_failed dev.old))
@@ -86,7 +87,7 @@ fn run_device<D: Attach, S: Source, K: Sink>(
     src: &mut S,
     sink: &mut K,
 ) -> Ended
-    ensures ran { Ran (D.call_count dev.old + 1) (end_of result.result) result.acks
+    ensures ran { Ran Single (D.call_count dev.old + 1) (end_of result.result) result.acks
         (ends (disk (D.contents dev.old) (D.call_count dev.old) (D.left_since dev.old)
         (D.write_fault_count dev.old) (D.last_failed dev.old))
         (S.left src.old) (S.takes src.old) (K.written sink.old)

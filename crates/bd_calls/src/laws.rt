@@ -1,24 +1,27 @@
 //! What a transcript comes to. The function here carries laws of the definitions, and does nothing.
 
-ghost use Rattle.std.specs.Prelude.{ℕ, List};
-ghost use Rattle.std.specs.List.{AllByRecursion};
+ghost use Rattle.std.specs.Prelude.{◌≡◌, ℕ, List};
 ghost use Rattle.bd_model.specs.Tree.{Tree, IsTree};
 ghost use Rattle.bd_device.specs.Blocks.{Image};
 ghost use Rattle.bd_image.specs.ImageTree.{ImageStandsFor};
-ghost use Rattle.bd_shell.specs.Transcript.{State, Entry, IsTranscript, CanBe, AreCheap, state_after};
+ghost use Rattle.bd_sessions.specs.Handles.{no_handles};
+ghost use Rattle.bd_shell.specs.Transcript.{State, Entry, IsTranscript, AllCanBe, AreAlone, AreCheap, FollowAlone, state_after};
 ghost use Rattle.bd_calls.specs.Work.{AreInOrder};
 
 /// What an image stands for is a tree. Where a transcript begins at one, each of its states has
 /// one, and each of its lines that is a command keeps the limits of commands: so what the model's
 /// laws say of a step holds of each step of a run. Each accepted clone or rename takes a walk of at
 /// most `5h + 2` visits where `h` nodes stood one below the other, and every other line keeps the
-/// walk. The calls of what is acknowledged along it don't fall.
+/// walk. The calls of what is acknowledged along it don't fall. Where its lines come from no client,
+/// each reply and each state follows from the line of a script alone: no handle is opened.
 pub fn law_of_transcripts()
     ensures first { (t : Tree) (n : ℕ) (image : Image) → ImageStandsFor t n image → IsTree t }
     ensures each { (s : State) (es : List Entry) → IsTree s.tree → IsTranscript s es
-        → AllByRecursion CanBe es }
+        → AllCanBe s es }
     ensures cost { (s : State) (es : List Entry) → IsTranscript s es → AreCheap s es }
     ensures order { (least : ℕ) (s : State) (es : List Entry) → AreInOrder least s.calls s.acks
         → IsTranscript s es
         → AreInOrder least (state_after s es).calls (state_after s es).acks }
+    ensures alone { (s : State) (es : List Entry) → s.kept ≡ no_handles → AreAlone es
+        → IsTranscript s es → FollowAlone s es }
 {}

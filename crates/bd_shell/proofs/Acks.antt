@@ -1,14 +1,14 @@
 -- Acknowledgements that come one after the other.
 use Rattle.std.proofs.Common.{◌≡◌, ℕ, ◌+◌, List, [], ◌∷◌, ◌++◌, refl, sym, ap, subst, ◌∙◌, append_assoc, arith, length-append}
 use Rattle.std.proofs.lemmas.List.{append-nil}
-use Rattle.bd_script.specs.Lines.{LineMeaning}
+use Rattle.bd_sessions.specs.Spoken.{Spoken}
 use Rattle.bd_shell.specs.declared.outcome.Ack.{Ack}
 use Rattle.bd_shell.specs.Transcript.{Exchange, HasAcked, durable, executed}
 use Rattle.bd_shell.proofs.Transcripts.{executed-append}
 
 -- ---- how many lines make all durable
 
-pub durable-append : (ls ms : List LineMeaning) → durable (ls ++ ms) ≡ durable ls + durable ms
+pub durable-append : (ls ms : List Spoken) → durable (ls ++ ms) ≡ durable ls + durable ms
 durable-append [] ms = omega arith
 durable-append (l ∷ ls) ms = omega (arith, durable-append ls ms)
 
@@ -44,5 +44,5 @@ pub acks_joined : (xs ys : List Exchange) (a b c : List Ack) → HasAcked (durab
 acks_joined xs ys a b c h k = acks_as _ _ a c (durable-joined xs ys) (acks_then (durable (executed xs)) (durable (executed ys)) a b c h k)
 
 -- those of lines that go by another name
-pub acks_of : (ls ms : List LineMeaning) (a b : List Ack) → ls ≡ ms → HasAcked (durable ls) a b → HasAcked (durable ms) a b
+pub acks_of : (ls ms : List Spoken) (a b : List Ack) → ls ≡ ms → HasAcked (durable ls) a b → HasAcked (durable ms) a b
 acks_of ls ms a b same h = subst (λ l. HasAcked (durable l) a b) same h

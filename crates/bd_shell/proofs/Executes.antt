@@ -10,8 +10,8 @@ use Rattle.std.specs.Io.KnownBytes.{append_known}
 use Rattle.std.proofs.lemmas.List.{append-nil}
 use Rattle.bd_io.proofs.Written.{append_known-twice}
 use Rattle.bd_node.proofs.Lookup.{each_both}
-use Rattle.bd_script.specs.Lines.{LineMeaning, line_of, is_stop}
-use Rattle.bd_script.specs.Replies.{line_reply_line}
+use Rattle.bd_sessions.specs.Replies.{said_line}
+use Rattle.bd_sessions.specs.Spoken.{Mode, Spoken, is_stop, spoken}
 use Rattle.bd_shell.specs.Transcript.{Output, State, Exchange, IsAnswered, HasAcked, durable, text, executed}
 use Rattle.bd_shell.specs.Session.{Executes}
 use Rattle.bd_shell.specs.Shell.{ExecutesOne, last_lines}
@@ -41,19 +41,19 @@ executes_none first w = record {
 }
 
 -- one line
-pub executes_one : (first last : State → Type 0) (l : LineMeaning) (a b : Output) → ExecutesOne first last l a b
+pub executes_one : (first last : State → Type 0) (l : Spoken) (a b : Output) → ExecutesOne first last l a b
     → Executes first last (l ∷ []) a b
 executes_one first last l a b x = record {
   exchanges = record { line = l; said = x.said } ∷ [];
   answered = ((x.answer, x.one_line), tt);
   lines_are = refl;
-  written = x.written ∙ ap (append_known a.written) (sym (append-nil (line_reply_line x.said)));
+  written = x.written ∙ ap (append_known a.written) (sym (append-nil (said_line l.client x.said)));
   acked = x.acked;
   runs = λ s h. transcript_one s l x.said last (x.replies s h);
 }
 
 -- some lines, and then more
-pub executes_more : (first mid last : State → Type 0) (ls ms : List LineMeaning) (a b c : Output) → Executes first mid ls a b
+pub executes_more : (first mid last : State → Type 0) (ls ms : List Spoken) (a b c : Output) → Executes first mid ls a b
     → Executes mid last ms b c → Executes first last (ls ++ ms) a c
 executes_more first mid last ls ms a b c x y = record {
   exchanges = x.exchanges ++ y.exchanges;
@@ -66,12 +66,12 @@ executes_more first mid last ls ms a b c x y = record {
 }
 
 -- the same lines, named otherwise
-pub executes_as : (first last : State → Type 0) (ls ms : List LineMeaning) (a b : Output) → ls ≡ ms
+pub executes_as : (first last : State → Type 0) (ls ms : List Spoken) (a b : Output) → ls ≡ ms
     → Executes first last ls a b → Executes first last ms a b
 executes_as first last ls ms a b same x = subst (λ l. Executes first last l a b) same x
 
 -- nothing was written or acknowledged since
-pub executes_kept : (first last : State → Type 0) (ls : List LineMeaning) (a b c : Output) → Executes first last ls a b → c.written ≡ b.written
+pub executes_kept : (first last : State → Type 0) (ls : List Spoken) (a b c : Output) → Executes first last ls a b → c.written ≡ b.written
     → c.acks ≡ b.acks → Executes first last ls a c
 executes_kept first last ls a b c x same acks = record {
   exchanges = x.exchanges;
@@ -83,17 +83,17 @@ executes_kept first last ls a b c x same acks = record {
 }
 
 -- the acknowledgements of what was executed
-pub executes_acked : (first last : State → Type 0) (ls : List LineMeaning) (a b : Output) → (x : Executes first last ls a b)
+pub executes_acked : (first last : State → Type 0) (ls : List Spoken) (a b : Output) → (x : Executes first last ls a b)
     → HasAcked (durable (executed x.exchanges)) a.acks b.acks
 executes_acked first last ls a b x = acks_of ls (executed x.exchanges) a.acks b.acks (sym x.lines_are) x.acked
 
 -- what is held at the end is a line where it isn't empty
-pub last_some : (line same : List ℕ) → same ≡ line → 0 < length line → last_lines line ≡ line_of same ∷ []
-last_some [] same is some = absurd (omega arith)
-last_some (b ∷ line) same is some = ap (λ l. line_of l ∷ []) (sym is)
+pub last_some : (mode : Mode) (line same : List ℕ) → same ≡ line → 0 < length line → last_lines mode line ≡ spoken mode same ∷ []
+last_some mode [] same is some = absurd (omega arith)
+last_some mode (b ∷ line) same is some = ap (λ l. spoken mode l ∷ []) (sym is)
 
 -- one line alone
-pub one_stop : (l : LineMeaning) → is_stop l ≡ list_any is_stop (l ∷ [])
+pub one_stop : (l : Spoken) → is_stop l ≡ list_any is_stop (l ∷ [])
 one_stop l = by (is_stop l)
   where
     by : (b : Bool) → b ≡ (b || false)

@@ -31,6 +31,7 @@ use Rattle.bd_shell.specs.Crashes.{IsSafeSince}
 use Rattle.bd_shell.specs.Session.{closed}
 use Rattle.bd_shell.specs.Shell.{VolumeAt, KeptAt, device_below}
 use Rattle.bd_shell.proofs.Surviving.{safe_then, safe_more}
+use Rattle.bd_shell.proofs.Turns.{lifts}
 
 -- the state with the volume's view, after the calls of its device
 abbrev pub moved_to : {D : Type 0} → Ghosts D → Volume D → State → State
@@ -158,7 +159,8 @@ followed_passed s (Err refusal) said after h p was = still s after p (ap (λ (u 
 
 transcript_passed : (s : State) (es : List Entry) → IsTranscript s es → (p : Point) → Contains s.passed p → Contains (state_after s es).passed p
 transcript_passed s [] h p was = was
-transcript_passed s (e ∷ es) h p was = transcript_passed e.state es h.1 p (followed_passed s e.line e.said e.state h.0.follows p was)
+transcript_passed s (e ∷ es) h p was =
+    transcript_passed e.state es h.1 p (lifts (λ (a b : State). (q : Point) → Contains a.passed q → Contains b.passed q) followed_passed (λ a b kept f. f) s e.line e.said e.state h.0.follows p was)
 
 -- also once all was made durable
 pub closed_passed : (end : Option Fault) (stopped : Bool) (calls : ℕ) (s : State) (es : List Entry) → IsTranscript s es → (p : Point) → Contains s.passed p

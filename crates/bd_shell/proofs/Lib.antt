@@ -9,4 +9,6 @@ pub mod Lines
 pub mod Scripts
 pub mod Starts
 pub mod Left
+pub mod Turns
+pub mod Alone
 pub mod Moving

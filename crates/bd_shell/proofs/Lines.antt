@@ -1,5 +1,5 @@
 -- One line: its reply, or its fault.
-use Rattle.std.proofs.Common.{◌≡◌, ℕ, ◌⊎◌, Bool, true, false, cond, List, [], ◌∷◌, inl, inr, refl, sym, ap, subst, ◌∙◌, arith}
+use Rattle.std.proofs.Common.{◌≡◌, ℕ, ◌⊎◌, Bool, true, false, cond, List, inl, inr, refl, sym, ap, subst, ◌∙◌, arith}
 use Rattle.std.specs.declared.option.Option.{Option}
 use Rattle.std.specs.declared.result.Result.{Result}
 use Rattle.std.specs.declared.result.Result.TheVariants.{Ok, Err}
@@ -33,12 +33,12 @@ use Rattle.bd_volume.specs.declared.volume.Volume.{Volume}
 use Rattle.bd_volume.specs.declared.fault.Fault.{Fault as VolumeFault}
 use Rattle.bd_volume.specs.declared.fault.Fault.TheVariants as volume
 use Rattle.bd_shell.specs.declared.fault.Fault.{Fault}
-use Rattle.bd_shell.specs.declared.fault.Fault.TheVariants.{Device, Damaged, Source, Memory, TooLong, Worn, Sink}
+use Rattle.bd_shell.specs.declared.fault.Fault.TheVariants.{Device, Damaged, Memory, Worn, Sink}
 use Rattle.bd_io.specs.Cause.{Rose}
 use Rattle.bd_shell.specs.Fault.{Faults, IsCaused}
-use Rattle.bd_shell.specs.Transcript.{Output, State, with_view, synced_state, IsCommandReply, IsDoneOrFull, HasAcked, MayGet, Follows, Moves, durable, told, told_free}
-use Rattle.bd_shell.specs.Session.{IsLeftBy, LeavesBy, Later}
-use Rattle.bd_shell.specs.Shell.{VolumeAt, Replies, Wore, is_stopped, counts_of, IsOutcome, IsLineFault, LineFails, NamesBad, NamesBadAt, RunFails}
+use Rattle.bd_shell.specs.Transcript.{State, with_view, synced_state, IsCommandReply, IsDoneOrFull, HasAcked, MayGet, Follows, Moves, acks_due, told, told_free}
+use Rattle.bd_shell.specs.Session.{IsLeftBy, LeavesBy, Later, WornBy}
+use Rattle.bd_shell.specs.Shell.{VolumeAt, Replies, Wore, is_stopped, counts_of, IsOutcome, IsLineFault, LineFails, NamesBad, NamesBadAt}
 use Rattle.bd_shell.specs.declared.outcome.Ack.{Ack}
 use Rattle.bd_shell.proofs.Acks.{acks_none, acks_as}
 use Rattle.bd_shell.proofs.Keeping.{Carries, moved_to, stepped_to}
@@ -186,11 +186,11 @@ reclaim_fills g v w s line free need at is stays h last carries =
 pub command_leaves : {D : Type 0} (g : Ghosts D) (v w : Volume D) (s : State) (line : Line) (c : Command) → VolumeAt g v s → line ≡ Run c
     → ((t : Tree) (n : ℕ) → StandsFor g v t n → StandsFor g w t n) → HasStepped c (view_of g v) (view_of g w)
     → (IsSome (refusal_of s.tree c) → view_of g w ≡ view_of g v) → (last : State → Type 0) → Carries g w s (moved_to g w s) last
-    → LeavesBy (Ok line) s last
+    → LeavesBy (IsLeftBy (Ok line) s) s last
 command_leaves g v w s line c at is stays stepped refused last carries =
-    subst (λ l. LeavesBy (Ok l) s last) (sym is) (record {
+    subst (λ l. LeavesBy (IsLeftBy (Ok l) s) s last) (sym is) (record {
       left = view_of g w;
-      by = record { stepped = subst (λ old. HasStepped c old (view_of g w)) at.view_is stepped; refused = λ some. refused some ∙ at.view_is };
+      left_by = record { stepped = subst (λ old. HasStepped c old (view_of g w)) at.view_is stepped; refused = λ some. refused some ∙ at.view_is };
       calls = g.call_count (device_of w);
       later = carries.later;
       reached = carries.lift (at_view g v w s stays at);
@@ -198,17 +198,17 @@ command_leaves g v w s line c at is stays stepped refused last carries =
 
 pub checkpoint_leaves : {D : Type 0} (g : Ghosts D) (v w : Volume D) (s : State) (line : Line) → VolumeAt g v s → line ≡ Checkpoint
     → ((t : Tree) (n : ℕ) → StandsFor g v t n → StandsFor g w t n) → view_of g w ≡ view_of g v → (last : State → Type 0) → Carries g w s (moved_to g w s) last
-    → LeavesBy (Ok line) s last
+    → LeavesBy (IsLeftBy (Ok line) s) s last
 checkpoint_leaves g v w s line at is stays same last carries =
-    subst (λ l. LeavesBy (Ok l) s last) (sym is) (record { left = view_of g w; by = same ∙ at.view_is; calls = g.call_count (device_of w); later = carries.later; reached = carries.lift (at_view g v w s stays at) })
+    subst (λ l. LeavesBy (IsLeftBy (Ok l) s) s last) (sym is) (record { left = view_of g w; left_by = same ∙ at.view_is; calls = g.call_count (device_of w); later = carries.later; reached = carries.lift (at_view g v w s stays at) })
 
 pub reclaim_leaves : {D : Type 0} (g : Ghosts D) (v w : Volume D) (s : State) (line : Line) → VolumeAt g v s → line ≡ Reclaim
     → ((t : Tree) (n : ℕ) → StandsFor g v t n → StandsFor g w t n) → HasBegunReclaiming (view_of g v) (view_of g w) → (last : State → Type 0) → Carries g w s (moved_to g w s) last
-    → LeavesBy (Ok line) s last
+    → LeavesBy (IsLeftBy (Ok line) s) s last
 reclaim_leaves g v w s line at is stays begun last carries =
-    subst (λ l. LeavesBy (Ok l) s last) (sym is) (record {
+    subst (λ l. LeavesBy (IsLeftBy (Ok l) s) s last) (sym is) (record {
       left = view_of g w;
-      by = subst (λ old. HasBegunReclaiming old (view_of g w)) at.view_is begun;
+      left_by = subst (λ old. HasBegunReclaiming old (view_of g w)) at.view_is begun;
       calls = g.call_count (device_of w);
       later = carries.later;
       reached = carries.lift (at_view g v w s stays at);
@@ -216,12 +216,12 @@ reclaim_leaves g v w s line at is stays begun last carries =
 
 -- a sync that fails leaves the state, but for the number of calls
 pub sync_leaves : (s : State) (line same : Line) (last : State → Type 0) → Later (with_view s s.view) last s → line ≡ same → IsLeftBy (Ok same) s s.view
-    → LeavesBy (Ok line) s last
+    → LeavesBy (IsLeftBy (Ok line) s) s last
 sync_leaves s line same last h is by =
-    subst (λ l. LeavesBy (Ok l) s last) (sym is) (record { left = s.view; by = by; calls = h.calls; later = h.later; reached = h.reached })
+    subst (λ l. LeavesBy (IsLeftBy (Ok l) s) s last) (sym is) (record { left = s.view; left_by = by; calls = h.calls; later = h.later; reached = h.reached })
 
 -- its fault is the device's or memory's
-pub sync_fails : (e : Fault) (line : LineMeaning) (s : State) (last : State → Type 0) → (e ≡ Device) ⊎ (e ≡ Memory) → LeavesBy line s last → LineFails e s line last
+pub sync_fails : (e : Fault) (line : LineMeaning) (s : State) (last : State → Type 0) → (e ≡ Device) ⊎ (e ≡ Memory) → LeavesBy (IsLeftBy line s) s last → LineFails e s line last
 sync_fails e line s last (inl is) h = subst (λ f. LineFails f s line last) (sym is) h
 sync_fails e line s last (inr is) h = subst (λ f. LineFails f s line last) (sym is) h
 
@@ -237,9 +237,9 @@ wears_as which n m c old same new e f h = subst (λ k. Wears which k c same new)
 pub command_wears : {D : Type 0} (g : Ghosts D) (v w : Volume D) (s : State) (line : Line) (c : Command) (which : Counter) → VolumeAt g v s → line ≡ Run c
     → ((t : Tree) (n : ℕ) → StandsFor g v t n → StandsFor g w t n)
     → Wears which s.count c (view_of g v) (view_of g w) × IsNone (refusal_of s.tree c) → (last : State → Type 0) → Carries g w s (moved_to g w s) last
-    → Wore which s (Ok line) last
+    → Wore (WornBy which s (Ok line)) s last
 command_wears g v w s line c which at is stays h last carries =
-    subst (λ l. Wore which s (Ok l) last) (sym is) (record {
+    subst (λ l. Wore (WornBy which s (Ok l)) s last) (sym is) (record {
       left = view_of g w;
       worn = record { accepted = h.1; wears = wears_as which s.count s.count c (view_of g v) s.view (view_of g w) refl at.view_is h.0 };
       calls = g.call_count (device_of w);
@@ -258,9 +258,9 @@ not_full e which free need worn full = cc
 pub checkpoint_wears : {D : Type 0} (g : Ghosts D) (v w : Volume D) (s : State) (line : Line) (which : Counter) → VolumeAt g v s → line ≡ Checkpoint
     → ((t : Tree) (n : ℕ) → StandsFor g v t n → StandsFor g w t n) → view_of g w ≡ view_of g v
     → (free_slots (view_of g v) < save_slots (view_of g v) → ⊥) → (which ≡ Epoch) × (2 ^ 64 ≤ (view_of g v).epoch + 1) → (last : State → Type 0) → Carries g w s (moved_to g w s) last
-    → Wore which s (Ok line) last
+    → Wore (WornBy which s (Ok line)) s last
 checkpoint_wears g v w s line which at is stays same not_short h last carries =
-    subst (λ l. Wore which s (Ok l) last) (sym is) (record {
+    subst (λ l. Wore (WornBy which s (Ok l)) s last) (sym is) (record {
       left = view_of g w;
       worn = record {
         counter_is = h.0;
@@ -275,9 +275,9 @@ checkpoint_wears g v w s line which at is stays same not_short h last carries =
 
 pub reclaim_wears : {D : Type 0} (g : Ghosts D) (v w : Volume D) (s : State) (line : Line) (which : Counter) → VolumeAt g v s → line ≡ Reclaim
     → ((t : Tree) (n : ℕ) → StandsFor g v t n → StandsFor g w t n) → WearsReclaiming which (view_of g v) (view_of g w) → (last : State → Type 0) → Carries g w s (moved_to g w s) last
-    → Wore which s (Ok line) last
+    → Wore (WornBy which s (Ok line)) s last
 reclaim_wears g v w s line which at is stays h last carries =
-    subst (λ l. Wore which s (Ok l) last) (sym is) (record {
+    subst (λ l. Wore (WornBy which s (Ok l)) s last) (sym is) (record {
       left = view_of g w;
       worn = subst (λ old. WearsReclaiming which old (view_of g w)) at.view_is h;
       calls = g.call_count (device_of w);
@@ -305,9 +305,9 @@ outcome_ok (volume.Stopped call) r P is full = absurd is
 
 -- each other fault is the run's
 pub outcome_err : {D : Type 0} (e : VolumeFault) (r : Result LineReply Fault) (line : LineMeaning) (first last : D → ℕ → State → Type 0) → IsOutcome e r
-    → ((d : D) (n : ℕ) (s : State) → first d n s → LeavesBy line s (last d n))
+    → ((d : D) (n : ℕ) (s : State) → first d n s → LeavesBy (IsLeftBy line s) s (last d n))
     → ((block : ℕ) → e ≡ volume.Damaged block → (d : D) (n : ℕ) (s : State) → first d n s → ⊥)
-    → ((which : Counter) → e ≡ volume.Worn which → (d : D) (n : ℕ) (s : State) → first d n s → Wore which s line (last d n))
+    → ((which : Counter) → e ≡ volume.Worn which → (d : D) (n : ℕ) (s : State) → first d n s → Wore (WornBy which s line) s (last d n))
     → IfErr r (λ f. (d : D) (n : ℕ) (s : State) → first d n s → LineFails f s line (last d n))
 outcome_err {D} volume.Device r line first last is leaves undamaged worn =
     err_as (λ f. (d : D) (n : ℕ) (s : State) → first d n s → LineFails f s line (last d n)) r (Err Device) is leaves
@@ -348,27 +348,14 @@ caused_ok_at g d e sink later x same kept = record {
   cause = tt;
 }
 
--- ---- a fault before the reply
-
--- nothing is written or acknowledged
-pub line_fails : (e : Fault) (first last : State → Type 0) (line : LineMeaning) (a b : Output) → IsLineFault e → b.written ≡ a.written → b.acks ≡ a.acks
-    → ((s : State) → first s → LineFails e s line last) → RunFails e first last line a b
-line_fails Device first last line a b kind same acks f = record { unwritten = same; unacked = acks; leaves = f }
-line_fails (Damaged block) first last line a b kind same acks f = record { unwritten = same; unacked = acks; leaves = f }
-line_fails Source first last line a b kind same acks f = absurd kind
-line_fails Memory first last line a b kind same acks f = record { unwritten = same; unacked = acks; leaves = f }
-line_fails TooLong first last line a b kind same acks f = absurd kind
-line_fails (Worn which) first last line a b kind same acks f = record { unwritten = same; unacked = acks; leaves = f }
-line_fails Sink first last line a b kind same acks f = absurd kind
-
 -- ---- acknowledgements
 
 -- those of a line, by what it means
-pub acks_line : (line same : LineMeaning) (n : ℕ) (a b : List Ack) → line ≡ same → n ≡ durable (same ∷ []) → HasAcked n a b → HasAcked (durable (line ∷ [])) a b
-acks_line line same n a b is count h = subst (λ l. HasAcked (durable (l ∷ [])) a b) (sym is) (acks_as n (durable (same ∷ [])) a b count h)
+pub acks_line : (line same : LineMeaning) (n : ℕ) (a b : List Ack) → line ≡ same → n ≡ acks_due same → HasAcked n a b → HasAcked (acks_due line) a b
+acks_line line same n a b is count h = subst (λ l. HasAcked (acks_due l) a b) (sym is) (acks_as n (acks_due same) a b count h)
 
 -- where the line makes nothing durable
-pub acks_still : (line same : LineMeaning) (acks : List Ack) → line ≡ same → 0 ≡ durable (same ∷ []) → HasAcked (durable (line ∷ [])) acks acks
+pub acks_still : (line same : LineMeaning) (acks : List Ack) → line ≡ same → 0 ≡ acks_due same → HasAcked (acks_due line) acks acks
 acks_still line same acks is count = acks_line line same 0 acks acks is count (acks_none acks)
 
 -- what holds anyway holds where a result is Ok

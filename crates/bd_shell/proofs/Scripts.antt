@@ -18,9 +18,11 @@ use Rattle.bd_io.specs.Cause.{next_count}
 use Rattle.bd_io.specs.Takes.{Takes, takes_after}
 use Rattle.bd_io.specs.Written.{WrotePart}
 use Rattle.bd_node.proofs.Lookup.{each_both}
-use Rattle.bd_script.specs.Lines.{LineMeaning, all_but_last, last_piece, line_of, lines_of, whole_lines, open_line, held, is_empty, is_stop, up_to_stop}
-use Rattle.bd_script.specs.Replies.{line_reply_line}
-use Rattle.bd_script.proofs.CutLines.{some_pieces, whole_lines-more, open_line-more, held_goes_on, line_of-held}
+use Rattle.bd_script.specs.Lines.{all_but_last, last_piece, lines_of, whole_lines, open_line, held, is_empty}
+use Rattle.bd_script.proofs.CutLines.{some_pieces, whole_lines-more, open_line-more, held_goes_on}
+use Rattle.bd_sessions.specs.Replies.{said_line}
+use Rattle.bd_sessions.specs.Spoken.{Mode, Spoken, is_stop, spoken, up_to_stop}
+use Rattle.bd_sessions.proofs.LongLines.{spoken-held}
 use Rattle.bd_shell.specs.declared.fault.Fault.{Fault}
 use Rattle.bd_shell.specs.declared.fault.Fault.TheVariants.{Device, Damaged, Source, Memory, TooLong, Worn, Sink}
 use Rattle.bd_shell.specs.declared.outcome.Ack.{Ack}
@@ -30,6 +32,7 @@ use Rattle.bd_shell.specs.Shell.{last_lines, IsHeld, HasMore, completed, RunFail
 use Rattle.bd_shell.specs.declared.session.Taken.{Taken}
 use Rattle.bd_shell.specs.declared.session.Taken.TheVariants as source_gave
 use Rattle.bd_shell.specs.Taken.{IsTaken, taken_by, Took, TookLast}
+use Rattle.bd_shell.proofs.Held.{spoken-goes_on}
 use Rattle.bd_shell.proofs.Left.{leaves_worn, leaves_later, leaves_as}
 use Rattle.bd_shell.proofs.Transcripts.{transcript_one, transcript_more, transcript_as, up_to_stop-none, up_to_stop-any, up_to_stop-stopped, up_to_stop-append, up_to_stop-one, up_to_stop_front, IsFront-append, IsFront-trans, executed-append}
 use Rattle.bd_shell.proofs.Acks.{acks_none, acks_then, acks_as, acks_kept, acks_joined}
@@ -47,27 +50,27 @@ prepend_known-append xs ys (Some zs) = ap (λ l. Some l) (sym (append_assoc xs y
 -- ---- the lines of a script, and those of a front of it
 
 -- the lines that a piece completes, after what is held of a line
-meanings-more : (bytes piece line : List ℕ) → line ≡ held (open_line bytes) → meanings (bytes ++ piece) ≡ meanings bytes ++ meanings (line ++ piece)
-meanings-more bytes piece line is =
-    ap (map line_of) (whole_lines-more bytes piece) ∙ map-append line_of (whole_lines bytes) (whole_lines (open_line bytes ++ piece))
-    ∙ ap (λ l. meanings bytes ++ l) (sym ((held_goes_on bytes piece).meanings) ∙ ap (λ l. meanings (l ++ piece)) (sym is))
+meanings-more : (mode : Mode) (bytes piece line : List ℕ) → line ≡ held (open_line bytes) → meanings mode (bytes ++ piece) ≡ meanings mode bytes ++ meanings mode (line ++ piece)
+meanings-more mode bytes piece line is =
+    ap (map (spoken mode)) (whole_lines-more bytes piece) ∙ map-append (spoken mode) (whole_lines bytes) (whole_lines (open_line bytes ++ piece))
+    ∙ ap (λ l. meanings mode bytes ++ l) (sym (spoken-goes_on mode bytes piece) ∙ ap (λ l. meanings mode (l ++ piece)) (sym is))
 
 held-more : (bytes piece line : List ℕ) → line ≡ held (open_line bytes) → held (open_line (line ++ piece)) ≡ held (open_line (bytes ++ piece))
 held-more bytes piece line is = ap (λ l. held (open_line (l ++ piece))) is ∙ (held_goes_on bytes piece).rest ∙ ap held (sym (open_line-more bytes piece))
 
 -- the lines of some bytes after a front of them
-lines_front : (front rest : List ℕ) → map line_of (lines_of (front ++ rest)) ≡ meanings front ++ map line_of (lines_of (open_line front ++ rest))
-lines_front front rest =
+lines_front : (mode : Mode) (front rest : List ℕ) → map (spoken mode) (lines_of (front ++ rest)) ≡ meanings mode front ++ map (spoken mode) (lines_of (open_line front ++ rest))
+lines_front mode front rest =
     let last : List (List ℕ) = cond (is_empty (open_line (front ++ rest))) [] (open_line (front ++ rest) ∷ []) in
     let same : cond (is_empty (open_line (front ++ rest))) [] (open_line (front ++ rest) ∷ []) ≡ cond (is_empty (open_line (open_line front ++ rest))) [] (open_line (open_line front ++ rest) ∷ []) =
     ap (λ l. cond (is_empty l) [] (l ∷ [])) (open_line-more front rest) in
-    ap (map line_of) (ap (λ l. l ++ last) (whole_lines-more front rest) ∙ append_assoc (whole_lines front) (whole_lines (open_line front ++ rest)) last
+    ap (map (spoken mode)) (ap (λ l. l ++ last) (whole_lines-more front rest) ∙ append_assoc (whole_lines front) (whole_lines (open_line front ++ rest)) last
     ∙ ap (λ l. whole_lines front ++ (whole_lines (open_line front ++ rest) ++ l)) same)
-    ∙ map-append line_of (whole_lines front) (lines_of (open_line front ++ rest))
+    ∙ map-append (spoken mode) (whole_lines front) (lines_of (open_line front ++ rest))
 
-run_front : (front rest : List ℕ) → list_any is_stop (meanings front) ≡ false
-    → lines_to_run (front ++ rest) ≡ meanings front ++ lines_to_run (open_line front ++ rest)
-run_front front rest none = ap up_to_stop (lines_front front rest) ∙ up_to_stop-append (meanings front) (map line_of (lines_of (open_line front ++ rest))) none
+run_front : (mode : Mode) (front rest : List ℕ) → list_any is_stop (meanings mode front) ≡ false
+    → lines_to_run mode (front ++ rest) ≡ meanings mode front ++ lines_to_run mode (open_line front ++ rest)
+run_front mode front rest none = ap up_to_stop (lines_front mode front rest) ∙ up_to_stop-append (meanings mode front) (map (spoken mode) (lines_of (open_line front ++ rest))) none
 
 -- ---- bytes have a line, where there are some
 
@@ -93,63 +96,63 @@ some-append [] ys h = h
 some-append (x ∷ xs) ys h = refl
 
 -- complete lines were executed, and there are more bytes: there is a next line
-pub next_of_more : (front rest : List ℕ) (xs : List Exchange) → executed xs ≡ meanings front → list_any is_stop (meanings front) ≡ false
-    → is_empty rest ≡ false → (next : LineMeaning) × HasNext next (executed xs) (lines_to_run (front ++ rest))
-next_of_more front rest xs lines none some =
+pub next_of_more : (mode : Mode) (front rest : List ℕ) (xs : List Exchange) → executed xs ≡ meanings mode front → list_any is_stop (meanings mode front) ≡ false
+    → is_empty rest ≡ false → (next : Spoken) × HasNext next (executed xs) (lines_to_run mode (front ++ rest))
+next_of_more mode front rest xs lines none some =
     let h = some_lines (open_line front ++ rest) (some-append (open_line front) rest some) in
-    let first : map line_of (lines_of (open_line front ++ rest)) ≡ line_of h.0 ∷ map line_of h.1 = ap (map line_of) h.2 in
-    let more : List LineMeaning = cond (is_stop (line_of h.0)) [] (up_to_stop (map line_of h.1)) in (
-      line_of h.0,
+    let first : map (spoken mode) (lines_of (open_line front ++ rest)) ≡ spoken mode h.0 ∷ map (spoken mode) h.1 = ap (map (spoken mode)) h.2 in
+    let more : List Spoken = cond (is_stop (spoken mode h.0)) [] (up_to_stop (map (spoken mode) h.1)) in (
+      spoken mode h.0,
       record {
         rest = more;
-        lines_are = run_front front rest none ∙ ap (λ l. meanings front ++ l) (ap up_to_stop first) ∙ ap (λ l. l ++ line_of h.0 ∷ more) (sym lines);
+        lines_are = run_front mode front rest none ∙ ap (λ l. meanings mode front ++ l) (ap up_to_stop first) ∙ ap (λ l. l ++ spoken mode h.0 ∷ more) (sym lines);
       },
     )
 
 -- ---- what stands up to the `stop` within a piece
 
-run_stopped : (bytes piece line rest : List ℕ) → line ≡ held (open_line bytes) → list_any is_stop (meanings bytes) ≡ false
-    → list_any is_stop (meanings (line ++ piece)) ≡ true
-    → lines_to_run ((bytes ++ piece) ++ rest) ≡ meanings bytes ++ up_to_stop (meanings (line ++ piece))
-run_stopped bytes piece line rest is none some =
-    let lines = meanings-more bytes piece line is in
-    ap up_to_stop (lines_front (bytes ++ piece) rest)
-    ∙ up_to_stop-stopped (meanings (bytes ++ piece)) (map line_of (lines_of (open_line (bytes ++ piece) ++ rest)))
-    (ap (list_any is_stop) lines ∙ list_any-append is_stop (meanings bytes) (meanings (line ++ piece)) ∙ either _ _ some)
-    ∙ ap up_to_stop lines ∙ up_to_stop-append (meanings bytes) (meanings (line ++ piece)) none
+run_stopped : (mode : Mode) (bytes piece line rest : List ℕ) → line ≡ held (open_line bytes) → list_any is_stop (meanings mode bytes) ≡ false
+    → list_any is_stop (meanings mode (line ++ piece)) ≡ true
+    → lines_to_run mode ((bytes ++ piece) ++ rest) ≡ meanings mode bytes ++ up_to_stop (meanings mode (line ++ piece))
+run_stopped mode bytes piece line rest is none some =
+    let lines = meanings-more mode bytes piece line is in
+    ap up_to_stop (lines_front mode (bytes ++ piece) rest)
+    ∙ up_to_stop-stopped (meanings mode (bytes ++ piece)) (map (spoken mode) (lines_of (open_line (bytes ++ piece) ++ rest)))
+    (ap (list_any is_stop) lines ∙ list_any-append is_stop (meanings mode bytes) (meanings mode (line ++ piece)) ∙ either _ _ some)
+    ∙ ap up_to_stop lines ∙ up_to_stop-append (meanings mode bytes) (meanings mode (line ++ piece)) none
 
 -- the lines that a piece completes stand at the front of those of all the bytes, whatever follows
-fed_front : (bytes piece line more : List ℕ) → line ≡ held (open_line bytes) → list_any is_stop (meanings bytes) ≡ false
-    → IsFront (meanings bytes ++ up_to_stop (meanings (line ++ piece))) (lines_to_run ((bytes ++ piece) ++ more))
-fed_front bytes piece line more is none =
-    let lines = meanings-more bytes piece line is in
-    let tail : List LineMeaning = map line_of (lines_of (open_line (bytes ++ piece) ++ more)) in
-    subst (λ ls. IsFront (meanings bytes ++ up_to_stop (meanings (line ++ piece))) (up_to_stop ls)) (sym (lines_front (bytes ++ piece) more))
-    (subst (λ ls. IsFront ls (up_to_stop (meanings (bytes ++ piece) ++ tail)))
-    (ap up_to_stop lines ∙ up_to_stop-append (meanings bytes) (meanings (line ++ piece)) none)
-    (up_to_stop_front (meanings (bytes ++ piece)) tail))
+fed_front : (mode : Mode) (bytes piece line more : List ℕ) → line ≡ held (open_line bytes) → list_any is_stop (meanings mode bytes) ≡ false
+    → IsFront (meanings mode bytes ++ up_to_stop (meanings mode (line ++ piece))) (lines_to_run mode ((bytes ++ piece) ++ more))
+fed_front mode bytes piece line more is none =
+    let lines = meanings-more mode bytes piece line is in
+    let tail : List Spoken = map (spoken mode) (lines_of (open_line (bytes ++ piece) ++ more)) in
+    subst (λ ls. IsFront (meanings mode bytes ++ up_to_stop (meanings mode (line ++ piece))) (up_to_stop ls)) (sym (lines_front mode (bytes ++ piece) more))
+    (subst (λ ls. IsFront ls (up_to_stop (meanings mode (bytes ++ piece) ++ tail)))
+    (ap up_to_stop lines ∙ up_to_stop-append (meanings mode bytes) (meanings mode (line ++ piece)) none)
+    (up_to_stop_front (meanings mode (bytes ++ piece)) tail))
 
 -- ---- the end of a script
 
-up_to_stop-last_lines : (line : List ℕ) → up_to_stop (last_lines line) ≡ last_lines line
-up_to_stop-last_lines [] = refl
-up_to_stop-last_lines (b ∷ line) = up_to_stop-one (line_of (b ∷ line))
+up_to_stop-last_lines : (mode : Mode) (line : List ℕ) → up_to_stop (last_lines mode line) ≡ last_lines mode line
+up_to_stop-last_lines mode [] = refl
+up_to_stop-last_lines mode (b ∷ line) = up_to_stop-one (spoken mode (b ∷ line))
 
-last_lines-held : (line : List ℕ) → last_lines (held line) ≡ last_lines line
-last_lines-held [] = refl
-last_lines-held (b ∷ line) = ap (λ l. l ∷ []) (line_of-held (b ∷ line))
+last_lines-held : (mode : Mode) (line : List ℕ) → last_lines mode (held line) ≡ last_lines mode line
+last_lines-held mode [] = refl
+last_lines-held mode (b ∷ line) = ap (λ l. l ∷ []) (spoken-held mode (b ∷ line))
 
-last_lines-map : (line : List ℕ) → map line_of (cond (is_empty line) [] (line ∷ [])) ≡ last_lines line
-last_lines-map [] = refl
-last_lines-map (b ∷ line) = refl
+last_lines-map : (mode : Mode) (line : List ℕ) → map (spoken mode) (cond (is_empty line) [] (line ∷ [])) ≡ last_lines mode line
+last_lines-map mode [] = refl
+last_lines-map mode (b ∷ line) = refl
 
-run_ended : (bytes line : List ℕ) → line ≡ held (open_line bytes) → list_any is_stop (meanings bytes) ≡ false
-    → lines_to_run bytes ≡ meanings bytes ++ last_lines line
-run_ended bytes line is none =
-    let last : map line_of (cond (is_empty (open_line bytes)) [] (open_line bytes ∷ [])) ≡ last_lines line =
-    last_lines-map (open_line bytes) ∙ sym (last_lines-held (open_line bytes)) ∙ ap last_lines (sym is) in
-    ap up_to_stop (map-append line_of (whole_lines bytes) (cond (is_empty (open_line bytes)) [] (open_line bytes ∷ [])) ∙ ap (λ l. meanings bytes ++ l) last)
-    ∙ up_to_stop-append (meanings bytes) (last_lines line) none ∙ ap (λ l. meanings bytes ++ l) (up_to_stop-last_lines line)
+run_ended : (mode : Mode) (bytes line : List ℕ) → line ≡ held (open_line bytes) → list_any is_stop (meanings mode bytes) ≡ false
+    → lines_to_run mode bytes ≡ meanings mode bytes ++ last_lines mode line
+run_ended mode bytes line is none =
+    let last : map (spoken mode) (cond (is_empty (open_line bytes)) [] (open_line bytes ∷ [])) ≡ last_lines mode line =
+    last_lines-map mode (open_line bytes) ∙ sym (last_lines-held mode (open_line bytes)) ∙ ap (last_lines mode) (sym is) in
+    ap up_to_stop (map-append (spoken mode) (whole_lines bytes) (cond (is_empty (open_line bytes)) [] (open_line bytes ∷ [])) ∙ ap (λ l. meanings mode bytes ++ l) last)
+    ∙ up_to_stop-append (meanings mode bytes) (last_lines mode line) none ∙ ap (λ l. meanings mode bytes ++ l) (up_to_stop-last_lines mode line)
 
 -- what is known of a script whose taken part is known
 known : (P : List ℕ → Type 0) (bytes : List ℕ) (script rest : Option (List ℕ)) → script ≡ prepend_known bytes rest
@@ -214,24 +217,24 @@ took_none (Some t) = inl (refl, refl, refl)
 -- ---- where a session stands
 
 -- what was taken of a script, whose complete lines were executed, none of them a `stop`, and what of the next one is held
-pub record Stands (first now : State → Type 0) (line : List ℕ) (taken : ℕ) (script rest : Option (List ℕ)) (old new : Output) (before at : Option Takes) : Type 0 where
+pub record Stands (mode : Mode) (first now : State → Type 0) (line : List ℕ) (taken : ℕ) (script rest : Option (List ℕ)) (old new : Output) (before at : Option Takes) : Type 0 where
   pub bytes : List ℕ
   pub count : length bytes ≡ taken
   pub few : taken ≤ script_limit
   pub taken_is : script ≡ prepend_known bytes rest
-  pub no_stop : list_any is_stop (meanings bytes) ≡ false
+  pub no_stop : list_any is_stop (meanings mode bytes) ≡ false
   pub line_is : line ≡ held (open_line bytes)
   pub idle : IdleAlike before at
   pub front : List ℕ
   pub final : List ℕ
   pub split : bytes ≡ front ++ final
   pub took : Took front final before at
-  pub ran : Executes first now (meanings bytes) old new
+  pub ran : Executes first now (meanings mode bytes) old new
 
 -- nothing was taken yet
-pub stands_first : (first : State → Type 0) (line : List ℕ) (script : Option (List ℕ)) (w : Output) (t : Option Takes) → line ≡ []
-    → Stands first first line 0 script script w w t t
-stands_first first line script w t none = record {
+pub stands_first : (mode : Mode) (first : State → Type 0) (line : List ℕ) (script : Option (List ℕ)) (w : Output) (t : Option Takes) → line ≡ []
+    → Stands mode first first line 0 script script w w t t
+stands_first mode first line script w t none = record {
   bytes = [];
   count = refl;
   few = omega arith;
@@ -247,9 +250,9 @@ stands_first first line script w t none = record {
 }
 
 -- a flush keeps what was written and acknowledged
-pub stands_kept : (first now : State → Type 0) (line : List ℕ) (taken : ℕ) (script rest : Option (List ℕ)) (a b c : Output) (before at : Option Takes)
-    → Stands first now line taken script rest a b before at → c.written ≡ b.written → c.acks ≡ b.acks → Stands first now line taken script rest a c before at
-stands_kept first now line taken script rest a b c before at s same acks = record {
+pub stands_kept : (mode : Mode) (first now : State → Type 0) (line : List ℕ) (taken : ℕ) (script rest : Option (List ℕ)) (a b c : Output) (before at : Option Takes)
+    → Stands mode first now line taken script rest a b before at → c.written ≡ b.written → c.acks ≡ b.acks → Stands mode first now line taken script rest a c before at
+stands_kept mode first now line taken script rest a b c before at s same acks = record {
   bytes = s.bytes;
   count = s.count;
   few = s.few;
@@ -261,47 +264,47 @@ stands_kept first now line taken script rest a b c before at s same acks = recor
   final = s.final;
   split = s.split;
   took = s.took;
-  ran = executes_kept first now (meanings s.bytes) a b c s.ran same acks;
+  ran = executes_kept first now (meanings mode s.bytes) a b c s.ran same acks;
 }
 
 held_twice : (bytes line : List ℕ) → line ≡ held (open_line bytes) → IsHeld line
 held_twice bytes line is =
     ap (λ l. held (open_line l)) (sym (append-nil line)) ∙ held-more bytes [] line is ∙ ap (λ l. held (open_line l)) (append-nil bytes) ∙ sym is
 
-pub stands_held : {first now : State → Type 0} {line : List ℕ} {taken : ℕ} {script rest : Option (List ℕ)} {old new : Output} {before at : Option Takes}
-    → Stands first now line taken script rest old new before at → IsHeld line
+pub stands_held : {mode : Mode} {first now : State → Type 0} {line : List ℕ} {taken : ℕ} {script rest : Option (List ℕ)} {old new : Output} {before at : Option Takes}
+    → Stands mode first now line taken script rest old new before at → IsHeld line
 stands_held {line = line} s = held_twice s.bytes line s.line_is
 
 -- a piece more
-pub stands_more : (first mid now : State → Type 0) (line line2 piece : List ℕ) (taken : ℕ) (script left rest : Option (List ℕ)) (a b c : Output) (before at after : Option Takes)
-    → Stands first mid line taken script left a b before at → taken + length piece ≤ script_limit → left ≡ prepend_known piece rest → 0 < length piece
+pub stands_more : (mode : Mode) (first mid now : State → Type 0) (line line2 piece : List ℕ) (taken : ℕ) (script left rest : Option (List ℕ)) (a b c : Output) (before at after : Option Takes)
+    → Stands mode first mid line taken script left a b before at → taken + length piece ≤ script_limit → left ≡ prepend_known piece rest → 0 < length piece
     → length piece ≤ piece_limit → after ≡ option_map (takes_after piece) at
-    → Executes mid now (completed line piece) b c → list_any is_stop (meanings (line ++ piece)) ≡ false
-    → line2 ≡ held (open_line (line ++ piece)) → Stands first now line2 (taken + length piece) script rest a c before after
-stands_more first mid now line line2 piece taken script left rest a b c before at after s fits got some short told x none is =
-    let lines = meanings-more s.bytes piece line s.line_is in
+    → Executes mid now (completed mode line piece) b c → list_any is_stop (meanings mode (line ++ piece)) ≡ false
+    → line2 ≡ held (open_line (line ++ piece)) → Stands mode first now line2 (taken + length piece) script rest a c before after
+stands_more mode first mid now line line2 piece taken script left rest a b c before at after s fits got some short told x none is =
+    let lines = meanings-more mode s.bytes piece line s.line_is in
     record {
       bytes = s.bytes ++ piece;
       count = omega (arith, length-append s.bytes piece, s.count);
       few = fits;
       taken_is = s.taken_is ∙ ap (prepend_known s.bytes) got ∙ prepend_known-append s.bytes piece rest;
-      no_stop = ap (list_any is_stop) lines ∙ list_any-append is_stop (meanings s.bytes) (meanings (line ++ piece)) ∙ neither _ _ s.no_stop none;
+      no_stop = ap (list_any is_stop) lines ∙ list_any-append is_stop (meanings mode s.bytes) (meanings mode (line ++ piece)) ∙ neither _ _ s.no_stop none;
       line_is = is ∙ held-more s.bytes piece line s.line_is;
       idle = subst (IdleAlike before) (sym told) (idle_more before at piece s.idle some);
       front = s.bytes;
       final = piece;
       split = refl;
       took = took s.bytes piece before at after short s.idle told;
-      ran = executes_as first now _ _ a c (sym lines) (executes_more first mid now (meanings s.bytes) (meanings (line ++ piece)) a b c s.ran
-          (executes_as mid now _ _ b c (up_to_stop-none (meanings (line ++ piece)) none) x));
+      ran = executes_as first now _ _ a c (sym lines) (executes_more first mid now (meanings mode s.bytes) (meanings mode (line ++ piece)) a b c s.ran
+          (executes_as mid now _ _ b c (up_to_stop-none (meanings mode (line ++ piece)) none) x));
     }
 
 -- ---- a session's ends without a fault
 
 -- lines that begin with those that are complete in some bytes
-begins_with : (bytes : List ℕ) (xs : List Exchange) (lines more : List LineMeaning) → executed xs ≡ lines → lines ≡ meanings bytes ++ more
-    → list_any is_stop (meanings bytes) ≡ false → BeginsWith bytes xs
-begins_with bytes xs lines more are is none = record { rest = more; lines_are = are ∙ is; no_stop = none }
+begins_with : (mode : Mode) (bytes : List ℕ) (xs : List Exchange) (lines more : List Spoken) → executed xs ≡ lines → lines ≡ meanings mode bytes ++ more
+    → list_any is_stop (meanings mode bytes) ≡ false → BeginsWith mode bytes xs
+begins_with mode bytes xs lines more are is none = record { rest = more; lines_are = are ∙ is; no_stop = none }
 
 -- what holds anyway holds of a script
 any_script : (P : Type 0) (o : Option (List ℕ)) → P → IfSome o (λ _. P)
@@ -324,11 +327,11 @@ stopped_not : (b : Bool) → true ≡ b → b ≡ false → ⊥
 stopped_not b e f = cc
 
 -- all lines were executed
-all_read : (first now : State → Type 0) (lines more : List LineMeaning) (front taken : List ℕ) (script rest : Option (List ℕ)) (old new : Output) (before after : Option Takes)
-    → (p : Parts front taken script rest before after) → Executes first now lines old new → lines ≡ meanings front ++ more
-    → list_any is_stop (meanings front) ≡ false → lines ≡ lines_to_run taken → IfSome script (λ bytes. lines ≡ lines_to_run bytes)
-    → (list_any is_stop lines ≡ false → IsAtEnd rest × (p.final ≡ [])) → Session None first (λ _. now) no_acks script rest before after old new
-all_read first now lines more front taken script rest old new before after p x begins none among all read = record {
+all_read : (mode : Mode) (first now : State → Type 0) (lines more : List Spoken) (front taken : List ℕ) (script rest : Option (List ℕ)) (old new : Output) (before after : Option Takes)
+    → (p : Parts front taken script rest before after) → Executes first now lines old new → lines ≡ meanings mode front ++ more
+    → list_any is_stop (meanings mode front) ≡ false → lines ≡ lines_to_run mode taken → IfSome script (λ bytes. lines ≡ lines_to_run mode bytes)
+    → (list_any is_stop lines ≡ false → IsAtEnd rest × (p.final ≡ [])) → Session mode None first (λ _. now) no_acks script rest before after old new
+all_read mode first now lines more front taken script rest old new before after p x begins none among all read = record {
   exchanges = x.exchanges;
   answered = x.answered;
   front = front;
@@ -337,7 +340,7 @@ all_read first now lines more front taken script rest old new before after p x b
   taken_is = p.taken_is;
   script_is = p.script_is;
   took = p.took;
-  begins = begins_with front x.exchanges lines more x.lines_are begins none;
+  begins = begins_with mode front x.exchanges lines more x.lines_are begins none;
   among_taken = x.lines_are ∙ among;
   among_script = by script all;
   taken_at = p.few;
@@ -348,25 +351,25 @@ all_read first now lines more front taken script rest old new before after p x b
       (λ t g. record { told = tt; told_script = any_script (Unit {0}) script tt; reached = g });
 }
   where
-    by : (o : Option (List ℕ)) → IfSome o (λ bytes. lines ≡ lines_to_run bytes) → IfSome o (λ bytes. executed x.exchanges ≡ lines_to_run bytes)
+    by : (o : Option (List ℕ)) → IfSome o (λ bytes. lines ≡ lines_to_run mode bytes) → IfSome o (λ bytes. executed x.exchanges ≡ lines_to_run mode bytes)
     by None h = tt
     by (Some bytes) h = x.lines_are ∙ h
 
 -- so they were, and how the run goes on tells whether a `stop` is among them
-all_run : (first now : State → Type 0) (flow : ControlFlow (Unit {0}) (Unit {0})) (lines more : List LineMeaning) (front taken : List ℕ) (script rest : Option (List ℕ)) (old new : Output) (before after : Option Takes)
-    → (p : Parts front taken script rest before after) → Executes first now lines old new → lines ≡ meanings front ++ more
-    → list_any is_stop (meanings front) ≡ false → lines ≡ lines_to_run taken → IfSome script (λ bytes. lines ≡ lines_to_run bytes)
+all_run : (mode : Mode) (first now : State → Type 0) (flow : ControlFlow (Unit {0}) (Unit {0})) (lines more : List Spoken) (front taken : List ℕ) (script rest : Option (List ℕ)) (old new : Output) (before after : Option Takes)
+    → (p : Parts front taken script rest before after) → Executes first now lines old new → lines ≡ meanings mode front ++ more
+    → list_any is_stop (meanings mode front) ≡ false → lines ≡ lines_to_run mode taken → IfSome script (λ bytes. lines ≡ lines_to_run mode bytes)
     → (list_any is_stop lines ≡ false → IsAtEnd rest × (p.final ≡ [])) → breaks flow ≡ list_any is_stop lines
-    → RunsPieces (Ok flow) first now script rest before after old new
+    → RunsPieces mode (Ok flow) first now script rest before after old new
 unfolding all_read
-all_run first now flow lines more front taken script rest old new before after p x begins none among all read stops = record {
-  session = all_read first now lines more front taken script rest old new before after p x begins none among all read;
+all_run mode first now flow lines more front taken script rest old new before after p x begins none among all read stops = record {
+  session = all_read mode first now lines more front taken script rest old new before after p x begins none among all read;
   flow = stops ∙ ap (list_any is_stop) (sym x.lines_are);
 }
 
 -- a piece more was taken
-parts_more : {first now : State → Type 0} {line : List ℕ} {taken : ℕ} {script left : Option (List ℕ)} {a b : Output} {before at : Option Takes}
-    → (s : Stands first now line taken script left a b before at) → (piece : List ℕ) (rest : Option (List ℕ)) (after : Option Takes)
+parts_more : {mode : Mode} {first now : State → Type 0} {line : List ℕ} {taken : ℕ} {script left : Option (List ℕ)} {a b : Output} {before at : Option Takes}
+    → (s : Stands mode first now line taken script left a b before at) → (piece : List ℕ) (rest : Option (List ℕ)) (after : Option Takes)
     → taken + length piece ≤ script_limit → left ≡ prepend_known piece rest → length piece ≤ piece_limit → after ≡ option_map (takes_after piece) at
     → Parts s.bytes (s.bytes ++ piece) script rest before after
 parts_more {before = before} {at = at} s piece rest after fits got short told = record {
@@ -378,8 +381,8 @@ parts_more {before = before} {at = at} s piece rest after fits got short told = 
 }
 
 -- a take that gave nothing
-parts_none : {first now : State → Type 0} {line : List ℕ} {taken : ℕ} {script rest : Option (List ℕ)} {a b : Output} {before at : Option Takes}
-    → (s : Stands first now line taken script rest a b before at) → (after : Option Takes) → after ≡ option_map (takes_after []) at
+parts_none : {mode : Mode} {first now : State → Type 0} {line : List ℕ} {taken : ℕ} {script rest : Option (List ℕ)} {a b : Output} {before at : Option Takes}
+    → (s : Stands mode first now line taken script rest a b before at) → (after : Option Takes) → after ≡ option_map (takes_after []) at
     → Parts s.bytes s.bytes script rest before after
 parts_none {before = before} {at = at} s after told = record {
   final = [];
@@ -390,38 +393,38 @@ parts_none {before = before} {at = at} s after told = record {
 }
 
 -- a `stop` ends the script
-pub session_stops : (first mid now : State → Type 0) (flow : ControlFlow (Unit {0}) (Unit {0})) (line piece : List ℕ) (taken : ℕ) (script left rest : Option (List ℕ)) (a b c : Output) (before at after : Option Takes)
-    → Stands first mid line taken script left a b before at → taken + length piece ≤ script_limit → left ≡ prepend_known piece rest
+pub session_stops : (mode : Mode) (first mid now : State → Type 0) (flow : ControlFlow (Unit {0}) (Unit {0})) (line piece : List ℕ) (taken : ℕ) (script left rest : Option (List ℕ)) (a b c : Output) (before at after : Option Takes)
+    → Stands mode first mid line taken script left a b before at → taken + length piece ≤ script_limit → left ≡ prepend_known piece rest
     → length piece ≤ piece_limit → after ≡ option_map (takes_after piece) at
-    → Executes mid now (completed line piece) b c → list_any is_stop (meanings (line ++ piece)) ≡ true
-    → breaks flow ≡ true → RunsPieces (Ok flow) first now script rest before after a c
-session_stops first mid now flow line piece taken script left rest a b c before at after s fits got short told x some off =
+    → Executes mid now (completed mode line piece) b c → list_any is_stop (meanings mode (line ++ piece)) ≡ true
+    → breaks flow ≡ true → RunsPieces mode (Ok flow) first now script rest before after a c
+session_stops mode first mid now flow line piece taken script left rest a b c before at after s fits got short told x some off =
     let p = parts_more s piece rest after fits got short told in
-    let lines : List LineMeaning = meanings s.bytes ++ completed line piece in
-    let all = λ (more : List ℕ). sym (run_stopped s.bytes piece line more s.line_is s.no_stop some) in
+    let lines : List Spoken = meanings mode s.bytes ++ completed mode line piece in
+    let all = λ (more : List ℕ). sym (run_stopped mode s.bytes piece line more s.line_is s.no_stop some) in
     let stops : true ≡ list_any is_stop lines =
-    sym (list_any-append is_stop (meanings s.bytes) (completed line piece) ∙ either _ _ (up_to_stop-any (meanings (line ++ piece)) ∙ some)) in
-    all_run first now flow lines (completed line piece) s.bytes (s.bytes ++ piece) script rest a c before after p
-    (executes_more first mid now (meanings s.bytes) (completed line piece) a b c s.ran x) refl s.no_stop
-    (all [] ∙ ap lines_to_run (append-nil (s.bytes ++ piece)))
-    (known (λ bytes. lines ≡ lines_to_run bytes) (s.bytes ++ piece) script rest p.script_is (λ more e. all more))
+    sym (list_any-append is_stop (meanings mode s.bytes) (completed mode line piece) ∙ either _ _ (up_to_stop-any (meanings mode (line ++ piece)) ∙ some)) in
+    all_run mode first now flow lines (completed mode line piece) s.bytes (s.bytes ++ piece) script rest a c before after p
+    (executes_more first mid now (meanings mode s.bytes) (completed mode line piece) a b c s.ran x) refl s.no_stop
+    (all [] ∙ ap (lines_to_run mode) (append-nil (s.bytes ++ piece)))
+    (known (λ bytes. lines ≡ lines_to_run mode bytes) (s.bytes ++ piece) script rest p.script_is (λ more e. all more))
     (λ none. absurd (stopped_not (list_any is_stop lines) stops none)) (off ∙ stops)
 
 -- the script's end
-pub session_ends : (first mid now : State → Type 0) (flow : ControlFlow (Unit {0}) (Unit {0})) (line : List ℕ) (taken : ℕ) (script rest : Option (List ℕ)) (a b c : Output) (before at after : Option Takes)
-    → Stands first mid line taken script rest a b before at → IsAtEnd rest → after ≡ option_map (takes_after []) at
-    → Executes mid now (last_lines line) b c → breaks flow ≡ list_any is_stop (last_lines line)
-    → RunsPieces (Ok flow) first now script rest before after a c
+pub session_ends : (mode : Mode) (first mid now : State → Type 0) (flow : ControlFlow (Unit {0}) (Unit {0})) (line : List ℕ) (taken : ℕ) (script rest : Option (List ℕ)) (a b c : Output) (before at after : Option Takes)
+    → Stands mode first mid line taken script rest a b before at → IsAtEnd rest → after ≡ option_map (takes_after []) at
+    → Executes mid now (last_lines mode line) b c → breaks flow ≡ list_any is_stop (last_lines mode line)
+    → RunsPieces mode (Ok flow) first now script rest before after a c
 unfolding parts_none
-session_ends first mid now flow line taken script rest a b c before at after s end told x stops =
-    let lines : List LineMeaning = meanings s.bytes ++ last_lines line in
-    let all : lines ≡ lines_to_run s.bytes = sym (run_ended s.bytes line s.line_is s.no_stop) in
-    all_run first now flow lines (last_lines line) s.bytes s.bytes script rest a c before after (parts_none s after told)
-    (executes_more first mid now (meanings s.bytes) (last_lines line) a b c s.ran x) refl s.no_stop all
-    (known (λ bytes. lines ≡ lines_to_run bytes) s.bytes script rest s.taken_is
-    (λ more e. all ∙ ap lines_to_run (sym (ap (λ l. s.bytes ++ l) (end_is rest end more e) ∙ append-nil s.bytes))))
+session_ends mode first mid now flow line taken script rest a b c before at after s end told x stops =
+    let lines : List Spoken = meanings mode s.bytes ++ last_lines mode line in
+    let all : lines ≡ lines_to_run mode s.bytes = sym (run_ended mode s.bytes line s.line_is s.no_stop) in
+    all_run mode first now flow lines (last_lines mode line) s.bytes s.bytes script rest a c before after (parts_none s after told)
+    (executes_more first mid now (meanings mode s.bytes) (last_lines mode line) a b c s.ran x) refl s.no_stop all
+    (known (λ bytes. lines ≡ lines_to_run mode bytes) s.bytes script rest s.taken_is
+    (λ more e. all ∙ ap (lines_to_run mode) (sym (ap (λ l. s.bytes ++ l) (end_is rest end more e) ∙ append-nil s.bytes))))
     (λ none. (end, refl))
-    (stops ∙ sym (list_any-append is_stop (meanings s.bytes) (last_lines line) ∙ ap (λ b. b || list_any is_stop (last_lines line)) s.no_stop))
+    (stops ∙ sym (list_any-append is_stop (meanings mode s.bytes) (last_lines mode line) ∙ ap (λ b. b || list_any is_stop (last_lines mode line)) s.no_stop))
 
 -- ---- a session's ends by a fault
 
@@ -429,13 +432,13 @@ some-before : (xs ys : List ℕ) → is_empty xs ≡ false → is_empty (xs ++ y
 some-before [] ys h = cc
 some-before (x ∷ xs) ys h = refl
 
-HasNext-front : (next : LineMeaning) (done lines all : List LineMeaning) → HasNext next done lines → IsFront lines all → HasNext next done all
+HasNext-front : (next : Spoken) (done lines all : List Spoken) → HasNext next done lines → IsFront lines all → HasNext next done all
 HasNext-front next done lines all h front = record {
   rest = h.rest ++ front.0;
   lines_are = front.1 ∙ ap (λ l. l ++ front.0) h.lines_are ∙ append_assoc done (next ∷ h.rest) front.0;
 }
 
-HasNext-append : (next : LineMeaning) (xs done lines : List LineMeaning) → HasNext next done lines → HasNext next (xs ++ done) (xs ++ lines)
+HasNext-append : (next : Spoken) (xs done lines : List Spoken) → HasNext next done lines → HasNext next (xs ++ done) (xs ++ lines)
 HasNext-append next xs done lines h = record {
   rest = h.rest;
   lines_are = ap (λ l. xs ++ l) h.lines_are ∙ sym (append_assoc xs done (next ∷ h.rest));
@@ -446,50 +449,50 @@ cut_more xs ys a b c first cut = record {
   front = xs ++ cut.front;
   last = cut.last;
   exchanges_are = ap (λ l. xs ++ l) cut.exchanges_are ∙ sym (append_assoc xs cut.front (cut.last ∷ []));
-  part = subst (λ w. WrotePart (line_reply_line cut.last.said) w c) (text-twice xs cut.front a b (append_known b (text cut.front)) first refl) cut.part;
+  part = subst (λ w. WrotePart (said_line cut.last.line.client cut.last.said) w c) (text-twice xs cut.front a b (append_known b (text cut.front)) first refl) cut.part;
 }
 
 -- the lines of what was complete, and of a piece, one after the other
-done_twice : (bytes : List ℕ) (xs ys : List Exchange) → executed xs ≡ meanings bytes → executed (xs ++ ys) ≡ meanings bytes ++ executed ys
-done_twice bytes xs ys are = executed-append xs ys ∙ ap (λ l. l ++ executed ys) are
+done_twice : (mode : Mode) (bytes : List ℕ) (xs ys : List Exchange) → executed xs ≡ meanings mode bytes → executed (xs ++ ys) ≡ meanings mode bytes ++ executed ys
+done_twice mode bytes xs ys are = executed-append xs ys ∙ ap (λ l. l ++ executed ys) are
 
 -- where bytes are left of a piece, there is a next line, whatever follows
-at_line : (bytes line piece more : List ℕ) (xs ys : List Exchange) → line ≡ held (open_line bytes) → list_any is_stop (meanings bytes) ≡ false
-    → executed xs ≡ meanings bytes → HasMore line piece ys → IsAtLine (xs ++ ys) (lines_to_run ((bytes ++ piece) ++ more))
-at_line bytes line piece more xs ys is none are h =
+at_line : (mode : Mode) (bytes line piece more : List ℕ) (xs ys : List Exchange) → line ≡ held (open_line bytes) → list_any is_stop (meanings mode bytes) ≡ false
+    → executed xs ≡ meanings mode bytes → HasMore mode line piece ys → IsAtLine (xs ++ ys) (lines_to_run mode ((bytes ++ piece) ++ more))
+at_line mode bytes line piece more xs ys is none are h =
     let front : List ℕ = bytes ++ h.front in
-    let lines_of_front : meanings front ≡ meanings bytes ++ meanings (line ++ h.front) = meanings-more bytes h.front line is in
-    let lines : executed (xs ++ ys) ≡ meanings front = done_twice bytes xs ys are ∙ ap (λ l. meanings bytes ++ l) h.lines_are ∙ sym lines_of_front in
-    let no_stop : list_any is_stop (meanings front) ≡ false =
-    ap (list_any is_stop) lines_of_front ∙ list_any-append is_stop (meanings bytes) (meanings (line ++ h.front)) ∙ neither _ _ none h.no_stop in
+    let lines_of_front : meanings mode front ≡ meanings mode bytes ++ meanings mode (line ++ h.front) = meanings-more mode bytes h.front line is in
+    let lines : executed (xs ++ ys) ≡ meanings mode front = done_twice mode bytes xs ys are ∙ ap (λ l. meanings mode bytes ++ l) h.lines_are ∙ sym lines_of_front in
+    let no_stop : list_any is_stop (meanings mode front) ≡ false =
+    ap (list_any is_stop) lines_of_front ∙ list_any-append is_stop (meanings mode bytes) (meanings mode (line ++ h.front)) ∙ neither _ _ none h.no_stop in
     let joined : bytes ++ piece ≡ front ++ h.rest = ap (λ l. bytes ++ l) h.piece_is ∙ sym (append_assoc bytes h.front h.rest) in
-    subst (λ bs. IsAtLine (xs ++ ys) (lines_to_run bs)) (sym (ap (λ l. l ++ more) joined ∙ append_assoc front h.rest more))
-    (inr (next_of_more front (h.rest ++ more) (xs ++ ys) lines no_stop (some-before h.rest more h.some)))
+    subst (λ bs. IsAtLine (xs ++ ys) (lines_to_run mode bs)) (sym (ap (λ l. l ++ more) joined ∙ append_assoc front h.rest more))
+    (inr (next_of_more mode front (h.rest ++ more) (xs ++ ys) lines no_stop (some-before h.rest more h.some)))
 
 -- what was executed stands at the front where there is a next line
-line_front : (xs : List Exchange) (lines : List LineMeaning) → IsAtLine xs lines → IsFront (executed xs) lines
+line_front : (xs : List Exchange) (lines : List Spoken) → IsAtLine xs lines → IsFront (executed xs) lines
 line_front xs lines (inl none) = subst (λ (l : List Exchange). IsFront (executed l) lines) (sym none) (lines, refl)
 line_front xs lines (inr h) = (h.0 ∷ h.1.rest, h.1.lines_are)
 
 -- a next line of a piece is one of all, whatever follows
-next_of_all : (bytes line piece more : List ℕ) (xs ys : List Exchange) (next : LineMeaning) → line ≡ held (open_line bytes)
-    → list_any is_stop (meanings bytes) ≡ false → executed xs ≡ meanings bytes → HasNext next (executed ys) (completed line piece)
-    → HasNext next (executed (xs ++ ys)) (lines_to_run ((bytes ++ piece) ++ more))
-next_of_all bytes line piece more xs ys next is none are h =
-    let upto : List LineMeaning = meanings bytes ++ completed line piece in
-    HasNext-front next (executed (xs ++ ys)) upto (lines_to_run ((bytes ++ piece) ++ more))
-    (subst (λ d. HasNext next d upto) (sym (done_twice bytes xs ys are)) (HasNext-append next (meanings bytes) (executed ys) (completed line piece) h))
-    (fed_front bytes piece line more is none)
+next_of_all : (mode : Mode) (bytes line piece more : List ℕ) (xs ys : List Exchange) (next : Spoken) → line ≡ held (open_line bytes)
+    → list_any is_stop (meanings mode bytes) ≡ false → executed xs ≡ meanings mode bytes → HasNext next (executed ys) (completed mode line piece)
+    → HasNext next (executed (xs ++ ys)) (lines_to_run mode ((bytes ++ piece) ++ more))
+next_of_all mode bytes line piece more xs ys next is none are h =
+    let upto : List Spoken = meanings mode bytes ++ completed mode line piece in
+    HasNext-front next (executed (xs ++ ys)) upto (lines_to_run mode ((bytes ++ piece) ++ more))
+    (subst (λ d. HasNext next d upto) (sym (done_twice mode bytes xs ys are)) (HasNext-append next (meanings mode bytes) (executed ys) (completed mode line piece) h))
+    (fed_front mode bytes piece line more is none)
 
 -- some lines, and then a fault within a piece, by what is said of each fault
-broken_by : (e : Fault) (first mid now : State → Type 0) (bytes line piece : List ℕ) (script rest : Option (List ℕ)) (a b c : Output) (before after : Option Takes)
-    → Parts bytes (bytes ++ piece) script rest before after → list_any is_stop (meanings bytes) ≡ false → (x : Executes first mid (meanings bytes) a b)
-    → (y : BreaksOff e mid now line piece b c) → ((more : List ℕ) → Among (Some e) ((bytes ++ piece) ++ more) (x.exchanges ++ y.exchanges))
-    → TakenAt (Some e) (bytes ++ piece) (x.exchanges ++ y.exchanges) → Replied (Some e) bytes (bytes ++ piece) (x.exchanges ++ y.exchanges) a.written c.written
-    → ((s : State) → Tells (Some e) s (executed y.exchanges) (completed line piece) → (more : List ℕ)
-    → Tells (Some e) s (executed (x.exchanges ++ y.exchanges)) (lines_to_run ((bytes ++ piece) ++ more)))
-    → Session (Some e) first (λ _. now) no_acks script rest before after a c
-broken_by e first mid now bytes line piece script rest a b c before after p none x y among taken_at replied tells =
+broken_by : (mode : Mode) (e : Fault) (first mid now : State → Type 0) (bytes line piece : List ℕ) (script rest : Option (List ℕ)) (a b c : Output) (before after : Option Takes)
+    → Parts bytes (bytes ++ piece) script rest before after → list_any is_stop (meanings mode bytes) ≡ false → (x : Executes first mid (meanings mode bytes) a b)
+    → (y : BreaksOff mode e mid now line piece b c) → ((more : List ℕ) → Among mode (Some e) ((bytes ++ piece) ++ more) (x.exchanges ++ y.exchanges))
+    → TakenAt mode (Some e) (bytes ++ piece) (x.exchanges ++ y.exchanges) → Replied mode (Some e) bytes (bytes ++ piece) (x.exchanges ++ y.exchanges) a.written c.written
+    → ((s : State) → Tells (Some e) s (executed y.exchanges) (completed mode line piece) → (more : List ℕ)
+    → Tells (Some e) s (executed (x.exchanges ++ y.exchanges)) (lines_to_run mode ((bytes ++ piece) ++ more)))
+    → Session mode (Some e) first (λ _. now) no_acks script rest before after a c
+broken_by mode e first mid now bytes line piece script rest a b c before after p none x y among taken_at replied tells =
     let all : List Exchange = x.exchanges ++ y.exchanges in
     record {
       exchanges = all;
@@ -500,104 +503,104 @@ broken_by e first mid now bytes line piece script rest a b c before after p none
       taken_is = p.taken_is;
       script_is = p.script_is;
       took = p.took;
-      begins = begins_with bytes all _ (executed y.exchanges) (done_twice bytes x.exchanges y.exchanges x.lines_are) refl none;
-      among_taken = subst (λ bs. Among (Some e) bs all) (append-nil (bytes ++ piece)) (among []);
-      among_script = known (λ bs. Among (Some e) bs all) (bytes ++ piece) script rest p.script_is (λ more _. among more);
+      begins = begins_with mode bytes all _ (executed y.exchanges) (done_twice mode bytes x.exchanges y.exchanges x.lines_are) refl none;
+      among_taken = subst (λ bs. Among mode (Some e) bs all) (append-nil (bytes ++ piece)) (among []);
+      among_script = known (λ bs. Among mode (Some e) bs all) (bytes ++ piece) script rest p.script_is (λ more _. among more);
       taken_at = taken_at;
       read_out = tt;
       replied = replied;
-      acked = acked_all _ a.acks c.acks (acks_joined x.exchanges y.exchanges a.acks b.acks c.acks (executes_acked first mid (meanings bytes) a b x) y.acked);
-      runs = λ s h. transcript_as s all (HaltsIn e line piece y.exchanges now) _ (transcript_more s x.exchanges y.exchanges mid _ (x.runs s h) y.runs)
+      acked = acked_all _ a.acks c.acks (acks_joined x.exchanges y.exchanges a.acks b.acks c.acks (executes_acked first mid (meanings mode bytes) a b x) y.acked);
+      runs = λ s h. transcript_as s all (HaltsIn mode e line piece y.exchanges now) _ (transcript_more s x.exchanges y.exchanges mid _ (x.runs s h) y.runs)
           (λ t g. record {
-            told = subst (λ bs. Tells (Some e) t (executed all) (lines_to_run bs)) (append-nil (bytes ++ piece)) (tells t g.told []);
-            told_script = known (λ bs. Tells (Some e) t (executed all) (lines_to_run bs)) (bytes ++ piece) script rest p.script_is (λ more _. tells t g.told more);
+            told = subst (λ bs. Tells (Some e) t (executed all) (lines_to_run mode bs)) (append-nil (bytes ++ piece)) (tells t g.told []);
+            told_script = known (λ bs. Tells (Some e) t (executed all) (lines_to_run mode bs)) (bytes ++ piece) script rest p.script_is (λ more _. tells t g.told more);
             reached = g.reached;
           });
     }
 
-broken : (e : Fault) (first mid now : State → Type 0) (bytes line piece : List ℕ) (script rest : Option (List ℕ)) (a b c : Output) (before after : Option Takes)
-    → Parts bytes (bytes ++ piece) script rest before after → line ≡ held (open_line bytes) → list_any is_stop (meanings bytes) ≡ false
-    → (x : Executes first mid (meanings bytes) a b) → BreaksOff e mid now line piece b c → Session (Some e) first (λ _. now) no_acks script rest before after a c
+broken : (mode : Mode) (e : Fault) (first mid now : State → Type 0) (bytes line piece : List ℕ) (script rest : Option (List ℕ)) (a b c : Output) (before after : Option Takes)
+    → Parts bytes (bytes ++ piece) script rest before after → line ≡ held (open_line bytes) → list_any is_stop (meanings mode bytes) ≡ false
+    → (x : Executes first mid (meanings mode bytes) a b) → BreaksOff mode e mid now line piece b c → Session mode (Some e) first (λ _. now) no_acks script rest before after a c
 unfolding cut_more
-broken Device first mid now bytes line piece script rest a b c before after p is none x y =
-    broken_by Device first mid now bytes line piece script rest a b c before after p none x y
-    (λ more. line_front _ _ (at_line bytes line piece more x.exchanges y.exchanges is none x.lines_are y.halts)) p.few
+broken mode Device first mid now bytes line piece script rest a b c before after p is none x y =
+    broken_by mode Device first mid now bytes line piece script rest a b c before after p none x y
+    (λ more. line_front _ _ (at_line mode bytes line piece more x.exchanges y.exchanges is none x.lines_are y.halts)) p.few
     (text-twice x.exchanges y.exchanges a.written b.written c.written x.written y.replied) (λ s told more. tt)
-broken (Damaged block) first mid now bytes line piece script rest a b c before after p is none x y =
-    broken_by (Damaged block) first mid now bytes line piece script rest a b c before after p none x y
-    (λ more. at_line bytes line piece more x.exchanges y.exchanges is none x.lines_are y.halts) p.few
+broken mode (Damaged block) first mid now bytes line piece script rest a b c before after p is none x y =
+    broken_by mode (Damaged block) first mid now bytes line piece script rest a b c before after p none x y
+    (λ more. at_line mode bytes line piece more x.exchanges y.exchanges is none x.lines_are y.halts) p.few
     (text-twice x.exchanges y.exchanges a.written b.written c.written x.written y.replied) (λ s told more. told)
-broken Source first mid now bytes line piece script rest a b c before after p is none x y = absurd y.halts
-broken Memory first mid now bytes line piece script rest a b c before after p is none x y =
-    broken_by Memory first mid now bytes line piece script rest a b c before after p none x y
-    (λ more. line_front _ _ (at_line bytes line piece more x.exchanges y.exchanges is none x.lines_are y.halts)) p.few
+broken mode Source first mid now bytes line piece script rest a b c before after p is none x y = absurd y.halts
+broken mode Memory first mid now bytes line piece script rest a b c before after p is none x y =
+    broken_by mode Memory first mid now bytes line piece script rest a b c before after p none x y
+    (λ more. line_front _ _ (at_line mode bytes line piece more x.exchanges y.exchanges is none x.lines_are y.halts)) p.few
     (text-twice x.exchanges y.exchanges a.written b.written c.written x.written y.replied) (λ s told more. tt)
-broken TooLong first mid now bytes line piece script rest a b c before after p is none x y = absurd y.halts
-broken (Worn which) first mid now bytes line piece script rest a b c before after p is none x y =
-    broken_by (Worn which) first mid now bytes line piece script rest a b c before after p none x y
-    (λ more. inr (y.halts.0, next_of_all bytes line piece more x.exchanges y.exchanges y.halts.0 is none x.lines_are y.halts.1)) p.few
+broken mode TooLong first mid now bytes line piece script rest a b c before after p is none x y = absurd y.halts
+broken mode (Worn which) first mid now bytes line piece script rest a b c before after p is none x y =
+    broken_by mode (Worn which) first mid now bytes line piece script rest a b c before after p none x y
+    (λ more. inr (y.halts.0, next_of_all mode bytes line piece more x.exchanges y.exchanges y.halts.0 is none x.lines_are y.halts.1)) p.few
     (text-twice x.exchanges y.exchanges a.written b.written c.written x.written y.replied)
     (λ s told more. record {
       next = told.next;
-      has = next_of_all bytes line piece more x.exchanges y.exchanges told.next is none x.lines_are told.has;
+      has = next_of_all mode bytes line piece more x.exchanges y.exchanges told.next is none x.lines_are told.has;
       left = told.left;
       worn = told.worn;
     })
-broken Sink first mid now bytes line piece script rest a b c before after p is none x y =
+broken mode Sink first mid now bytes line piece script rest a b c before after p is none x y =
     let all : List Exchange = x.exchanges ++ y.exchanges in
-    let upto : List LineMeaning = meanings bytes ++ completed line piece in
+    let upto : List Spoken = meanings mode bytes ++ completed mode line piece in
     let front : IsFront (executed all) upto =
-    subst (λ d. IsFront d upto) (sym (done_twice bytes x.exchanges y.exchanges x.lines_are)) (IsFront-append (meanings bytes) (executed y.exchanges) (completed line piece) y.halts) in
-    broken_by Sink first mid now bytes line piece script rest a b c before after p none x y
-    (λ more. IsFront-trans (executed all) upto (lines_to_run ((bytes ++ piece) ++ more)) front (fed_front bytes piece line more is none)) p.few
+    subst (λ d. IsFront d upto) (sym (done_twice mode bytes x.exchanges y.exchanges x.lines_are)) (IsFront-append (meanings mode bytes) (executed y.exchanges) (completed mode line piece) y.halts) in
+    broken_by mode Sink first mid now bytes line piece script rest a b c before after p none x y
+    (λ more. IsFront-trans (executed all) upto (lines_to_run mode ((bytes ++ piece) ++ more)) front (fed_front mode bytes piece line more is none)) p.few
     (inl (cut_after x.exchanges y.exchanges a.written b.written c.written bytes x.written x.lines_are none y.replied)) (λ s told more. tt)
   where
-    cut_after : (xs ys : List Exchange) (u v w : Option (List ℕ)) (bs : List ℕ) → v ≡ append_known u (text xs) → executed xs ≡ meanings bs
-        → list_any is_stop (meanings bs) ≡ false → IsCutShort ys v w → IsCutAfter bs (xs ++ ys) u w
+    cut_after : (xs ys : List Exchange) (u v w : Option (List ℕ)) (bs : List ℕ) → v ≡ append_known u (text xs) → executed xs ≡ meanings mode bs
+        → list_any is_stop (meanings mode bs) ≡ false → IsCutShort ys v w → IsCutAfter mode bs (xs ++ ys) u w
     cut_after xs ys u v w bs first are no_stop cut = record {
       cut = cut_more xs ys u v w first cut;
-      begins = begins_with bs (xs ++ cut.front) _ (executed cut.front) (done_twice bs xs cut.front are) refl no_stop;
+      begins = begins_with mode bs (xs ++ cut.front) _ (executed cut.front) (done_twice mode bs xs cut.front are) refl no_stop;
     }
 
 -- a session that a fault ends
-faulted : (e : Fault) (first now : State → Type 0) (script rest : Option (List ℕ)) (before after : Option Takes) (a c : Output)
-    → Session (Some e) first (λ _. now) no_acks script rest before after a c → RunsPieces (Err e) first now script rest before after a c
-faulted e first now script rest before after a c s = record { session = s; flow = tt }
+faulted : (mode : Mode) (e : Fault) (first now : State → Type 0) (script rest : Option (List ℕ)) (before after : Option Takes) (a c : Output)
+    → Session mode (Some e) first (λ _. now) no_acks script rest before after a c → RunsPieces mode (Err e) first now script rest before after a c
+faulted mode e first now script rest before after a c s = record { session = s; flow = tt }
 
 -- a fault within a piece
-pub session_breaks : (e : Fault) (first mid now : State → Type 0) (line piece : List ℕ) (taken : ℕ) (script left rest : Option (List ℕ)) (a b c : Output) (before at after : Option Takes)
-    → Stands first mid line taken script left a b before at → taken + length piece ≤ script_limit → left ≡ prepend_known piece rest
+pub session_breaks : (mode : Mode) (e : Fault) (first mid now : State → Type 0) (line piece : List ℕ) (taken : ℕ) (script left rest : Option (List ℕ)) (a b c : Output) (before at after : Option Takes)
+    → Stands mode first mid line taken script left a b before at → taken + length piece ≤ script_limit → left ≡ prepend_known piece rest
     → length piece ≤ piece_limit → after ≡ option_map (takes_after piece) at
-    → BreaksOff e mid now line piece b c → RunsPieces (Err e) first now script rest before after a c
-session_breaks e first mid now line piece taken script left rest a b c before at after s fits got short told fails =
-    faulted e first now script rest before after a c
-    (broken e first mid now s.bytes line piece script rest a b c before after (parts_more s piece rest after fits got short told) s.line_is s.no_stop s.ran fails)
+    → BreaksOff mode e mid now line piece b c → RunsPieces mode (Err e) first now script rest before after a c
+session_breaks mode e first mid now line piece taken script left rest a b c before at after s fits got short told fails =
+    faulted mode e first now script rest before after a c
+    (broken mode e first mid now s.bytes line piece script rest a b c before after (parts_more s piece rest after fits got short told) s.line_is s.no_stop s.ran fails)
 
 same_script : (P : List ℕ → Type 0) (script : Option (List ℕ)) (bytes : List ℕ) → IfSome script (λ bs. bs ≡ bytes) → P bytes → IfSome script P
 same_script P None bytes same h = tt
 same_script P (Some bs) bytes same h = subst P (sym same) h
 
-last_one : (line : List ℕ) → is_empty line ≡ false → last_lines line ≡ line_of line ∷ []
-last_one [] some = cc
-last_one (b ∷ line) some = refl
+last_one : (mode : Mode) (line : List ℕ) → is_empty line ≡ false → last_lines mode line ≡ spoken mode line ∷ []
+last_one mode [] some = cc
+last_one mode (b ∷ line) some = refl
 
 -- what was taken is the whole script, whose last line isn't executed yet
-record AtLast (bytes line : List ℕ) (script : Option (List ℕ)) : Type 0 where
-  none : list_any is_stop (meanings bytes) ≡ false
-  all : lines_to_run bytes ≡ meanings bytes ++ line_of line ∷ []
+record AtLast (mode : Mode) (bytes line : List ℕ) (script : Option (List ℕ)) : Type 0 where
+  none : list_any is_stop (meanings mode bytes) ≡ false
+  all : lines_to_run mode bytes ≡ meanings mode bytes ++ spoken mode line ∷ []
   same : IfSome script (λ bs. bs ≡ bytes)
 
 -- a fault before the last line's reply, by what is said of each fault
-failed_by : (e : Fault) (first mid now : State → Type 0) (bytes line : List ℕ) (script rest : Option (List ℕ)) (a b c : Output) (before after : Option Takes)
-    → Parts bytes bytes script rest before after → AtLast bytes line script → (x : Executes first mid (meanings bytes) a b)
-    → (HasNext (line_of line) (executed x.exchanges) (lines_to_run bytes) → Among (Some e) bytes x.exchanges)
-    → TakenAt (Some e) bytes x.exchanges → Replied (Some e) bytes bytes x.exchanges a.written c.written → c.acks ≡ b.acks
-    → ((s : State) → mid s → HasNext (line_of line) (executed x.exchanges) (lines_to_run bytes)
-    → Tells (Some e) s (executed x.exchanges) (lines_to_run bytes) × Ends (Some e) s now)
-    → Session (Some e) first (λ _. now) no_acks script rest before after a c
-failed_by e first mid now bytes line script rest a b c before after p l x among taken_at replied acks ends =
-    let has : HasNext (line_of line) (executed x.exchanges) (lines_to_run bytes) =
-    record { rest = []; lines_are = l.all ∙ ap (λ ls. ls ++ line_of line ∷ []) (sym x.lines_are) } in
+failed_by : (mode : Mode) (e : Fault) (first mid now : State → Type 0) (bytes line : List ℕ) (script rest : Option (List ℕ)) (a b c : Output) (before after : Option Takes)
+    → Parts bytes bytes script rest before after → AtLast mode bytes line script → (x : Executes first mid (meanings mode bytes) a b)
+    → (HasNext (spoken mode line) (executed x.exchanges) (lines_to_run mode bytes) → Among mode (Some e) bytes x.exchanges)
+    → TakenAt mode (Some e) bytes x.exchanges → Replied mode (Some e) bytes bytes x.exchanges a.written c.written → c.acks ≡ b.acks
+    → ((s : State) → mid s → HasNext (spoken mode line) (executed x.exchanges) (lines_to_run mode bytes)
+    → Tells (Some e) s (executed x.exchanges) (lines_to_run mode bytes) × Ends (Some e) s now)
+    → Session mode (Some e) first (λ _. now) no_acks script rest before after a c
+failed_by mode e first mid now bytes line script rest a b c before after p l x among taken_at replied acks ends =
+    let has : HasNext (spoken mode line) (executed x.exchanges) (lines_to_run mode bytes) =
+    record { rest = []; lines_are = l.all ∙ ap (λ ls. ls ++ spoken mode line ∷ []) (sym x.lines_are) } in
     record {
       exchanges = x.exchanges;
       answered = x.answered;
@@ -607,47 +610,47 @@ failed_by e first mid now bytes line script rest a b c before after p l x among 
       taken_is = p.taken_is;
       script_is = p.script_is;
       took = p.took;
-      begins = begins_with bytes x.exchanges _ [] x.lines_are (sym (append-nil (meanings bytes))) l.none;
+      begins = begins_with mode bytes x.exchanges _ [] x.lines_are (sym (append-nil (meanings mode bytes))) l.none;
       among_taken = among has;
-      among_script = same_script (λ bs. Among (Some e) bs x.exchanges) script bytes l.same (among has);
+      among_script = same_script (λ bs. Among mode (Some e) bs x.exchanges) script bytes l.same (among has);
       taken_at = taken_at;
       read_out = tt;
       replied = replied;
-      acked = acked_all _ a.acks c.acks (acks_kept _ a.acks b.acks c.acks acks (executes_acked first mid (meanings bytes) a b x));
+      acked = acked_all _ a.acks c.acks (acks_kept _ a.acks b.acks c.acks acks (executes_acked first mid (meanings mode bytes) a b x));
       runs = λ s h. transcript_as s x.exchanges mid _ (x.runs s h) (λ t g. let r = ends t g has in
           record {
             told = r.0;
-            told_script = same_script (λ bs. Tells (Some e) t (executed x.exchanges) (lines_to_run bs)) script bytes l.same r.0;
+            told_script = same_script (λ bs. Tells (Some e) t (executed x.exchanges) (lines_to_run mode bs)) script bytes l.same r.0;
             reached = r.1;
           });
     }
 
 -- a fault at the last line
-failed : (e : Fault) (first mid now : State → Type 0) (bytes line : List ℕ) (script rest : Option (List ℕ)) (a b c : Output) (before after : Option Takes)
-    → Parts bytes bytes script rest before after → AtLast bytes line script → Executes first mid (meanings bytes) a b
-    → RunFails e mid now (line_of line) b c → Session (Some e) first (λ _. now) no_acks script rest before after a c
-failed Device first mid now bytes line script rest a b c before after p l x y =
-    failed_by Device first mid now bytes line script rest a b c before after p l x (λ has. line_front _ _ (inr (line_of line, has))) p.few (y.unwritten ∙ x.written) y.unacked
-    (λ s h has. (tt, (line_of line, y.leaves s h)))
-failed (Damaged block) first mid now bytes line script rest a b c before after p l x y =
-    failed_by (Damaged block) first mid now bytes line script rest a b c before after p l x (λ has. inr (line_of line, has)) p.few (y.unwritten ∙ x.written) y.unacked
+failed : (mode : Mode) (e : Fault) (first mid now : State → Type 0) (bytes line : List ℕ) (script rest : Option (List ℕ)) (a b c : Output) (before after : Option Takes)
+    → Parts bytes bytes script rest before after → AtLast mode bytes line script → Executes first mid (meanings mode bytes) a b
+    → RunFails e mid now (spoken mode line) b c → Session mode (Some e) first (λ _. now) no_acks script rest before after a c
+failed mode Device first mid now bytes line script rest a b c before after p l x y =
+    failed_by mode Device first mid now bytes line script rest a b c before after p l x (λ has. line_front _ _ (inr (spoken mode line, has))) p.few (y.unwritten ∙ x.written) y.unacked
+    (λ s h has. (tt, (spoken mode line, y.leaves s h)))
+failed mode (Damaged block) first mid now bytes line script rest a b c before after p l x y =
+    failed_by mode (Damaged block) first mid now bytes line script rest a b c before after p l x (λ has. inr (spoken mode line, has)) p.few (y.unwritten ∙ x.written) y.unacked
     (λ s h has. (y.leaves s h, y.leaves s h))
-failed Source first mid now bytes line script rest a b c before after p l x y = absurd y
-failed Memory first mid now bytes line script rest a b c before after p l x y =
-    failed_by Memory first mid now bytes line script rest a b c before after p l x (λ has. line_front _ _ (inr (line_of line, has))) p.few (y.unwritten ∙ x.written) y.unacked
-    (λ s h has. (tt, (line_of line, y.leaves s h)))
-failed TooLong first mid now bytes line script rest a b c before after p l x y = absurd y
-failed (Worn which) first mid now bytes line script rest a b c before after p l x y =
-    failed_by (Worn which) first mid now bytes line script rest a b c before after p l x (λ has. inr (line_of line, has)) p.few (y.unwritten ∙ x.written) y.unacked
+failed mode Source first mid now bytes line script rest a b c before after p l x y = absurd y
+failed mode Memory first mid now bytes line script rest a b c before after p l x y =
+    failed_by mode Memory first mid now bytes line script rest a b c before after p l x (λ has. line_front _ _ (inr (spoken mode line, has))) p.few (y.unwritten ∙ x.written) y.unacked
+    (λ s h has. (tt, (spoken mode line, y.leaves s h)))
+failed mode TooLong first mid now bytes line script rest a b c before after p l x y = absurd y
+failed mode (Worn which) first mid now bytes line script rest a b c before after p l x y =
+    failed_by mode (Worn which) first mid now bytes line script rest a b c before after p l x (λ has. inr (spoken mode line, has)) p.few (y.unwritten ∙ x.written) y.unacked
     (λ s h has. let w = y.leaves s h in (
-      record { next = line_of line; has = has; left = w.left; worn = w.worn },
-      leaves_worn which s (line_of line) now w,
+      record { next = spoken mode line; has = has; left = w.left; worn = w.worn },
+      leaves_worn which s (spoken mode line) now w,
     ))
-failed Sink first mid now bytes line script rest a b c before after p l x y =
-    let last : Exchange = record { line = line_of line; said = y.said } in
+failed mode Sink first mid now bytes line script rest a b c before after p l x y =
+    let last : Exchange = record { line = spoken mode line; said = y.said } in
     let xs : List Exchange = x.exchanges ++ last ∷ [] in
-    let among : IsFront (executed xs) (lines_to_run bytes) =
-    ([], l.all ∙ sym (append-nil (meanings bytes ++ line_of line ∷ [])) ∙ ap (λ ls. ls ++ []) (ap (λ ls. ls ++ line_of line ∷ []) (sym x.lines_are) ∙ sym (executed-append x.exchanges (last ∷ [])))) in
+    let among : IsFront (executed xs) (lines_to_run mode bytes) =
+    ([], l.all ∙ sym (append-nil (meanings mode bytes ++ spoken mode line ∷ [])) ∙ ap (λ ls. ls ++ []) (ap (λ ls. ls ++ spoken mode line ∷ []) (sym x.lines_are) ∙ sym (executed-append x.exchanges (last ∷ [])))) in
     record {
       exchanges = xs;
       answered = each_both IsAnswered x.exchanges (last ∷ []) x.answered ((y.answer, y.one_line), tt);
@@ -657,55 +660,55 @@ failed Sink first mid now bytes line script rest a b c before after p l x y =
       taken_is = p.taken_is;
       script_is = p.script_is;
       took = p.took;
-      begins = begins_with bytes xs _ (line_of line ∷ []) (done_twice bytes x.exchanges (last ∷ []) x.lines_are) refl l.none;
+      begins = begins_with mode bytes xs _ (spoken mode line ∷ []) (done_twice mode bytes x.exchanges (last ∷ []) x.lines_are) refl l.none;
       among_taken = among;
-      among_script = same_script (λ bs. IsFront (executed xs) (lines_to_run bs)) script bytes l.same among;
+      among_script = same_script (λ bs. IsFront (executed xs) (lines_to_run mode bs)) script bytes l.same among;
       taken_at = p.few;
       read_out = tt;
-      acked = acked_all _ a.acks c.acks (acks_joined x.exchanges (last ∷ []) a.acks b.acks c.acks (executes_acked first mid (meanings bytes) a b x) y.acked);
+      acked = acked_all _ a.acks c.acks (acks_joined x.exchanges (last ∷ []) a.acks b.acks c.acks (executes_acked first mid (meanings mode bytes) a b x) y.acked);
       replied = inl (record {
-        cut = record { front = x.exchanges; last = last; exchanges_are = refl; part = subst (λ w. WrotePart (line_reply_line y.said) w c.written) x.written y.part };
-        begins = begins_with bytes x.exchanges _ [] x.lines_are (sym (append-nil (meanings bytes))) l.none;
+        cut = record { front = x.exchanges; last = last; exchanges_are = refl; part = subst (λ w. WrotePart (said_line last.line.client y.said) w c.written) x.written y.part };
+        begins = begins_with mode bytes x.exchanges _ [] x.lines_are (sym (append-nil (meanings mode bytes))) l.none;
       });
       runs = λ s h. transcript_as s xs now _
-          (transcript_more s x.exchanges (last ∷ []) mid now (x.runs s h) (λ t g. transcript_one t (line_of line) y.said now (y.replies t g)))
+          (transcript_more s x.exchanges (last ∷ []) mid now (x.runs s h) (λ t g. transcript_one t (spoken mode line) y.said now (y.replies t g)))
           (λ t g. record { told = tt; told_script = any_script (Unit {0}) script tt; reached = g });
     }
 
-pub session_fails : (e : Fault) (first mid now : State → Type 0) (line : List ℕ) (taken : ℕ) (script rest : Option (List ℕ)) (a b c : Output) (before at after : Option Takes)
-    → Stands first mid line taken script rest a b before at → IsAtEnd rest → after ≡ option_map (takes_after []) at → is_empty line ≡ false
-    → RunFails e mid now (line_of line) b c → RunsPieces (Err e) first now script rest before after a c
-session_fails e first mid now line taken script rest a b c before at after s end told some fails =
-    faulted e first now script rest before after a c (failed e first mid now s.bytes line script rest a b c before after (parts_none s after told)
+pub session_fails : (mode : Mode) (e : Fault) (first mid now : State → Type 0) (line : List ℕ) (taken : ℕ) (script rest : Option (List ℕ)) (a b c : Output) (before at after : Option Takes)
+    → Stands mode first mid line taken script rest a b before at → IsAtEnd rest → after ≡ option_map (takes_after []) at → is_empty line ≡ false
+    → RunFails e mid now (spoken mode line) b c → RunsPieces mode (Err e) first now script rest before after a c
+session_fails mode e first mid now line taken script rest a b c before at after s end told some fails =
+    faulted mode e first now script rest before after a c (failed mode e first mid now s.bytes line script rest a b c before after (parts_none s after told)
     (record {
       none = s.no_stop;
-      all = run_ended s.bytes line s.line_is s.no_stop ∙ ap (λ l. meanings s.bytes ++ l) (last_one line some);
+      all = run_ended mode s.bytes line s.line_is s.no_stop ∙ ap (λ l. meanings mode s.bytes ++ l) (last_one mode line some);
       same = known (λ bs. bs ≡ s.bytes) s.bytes script rest s.taken_is (λ more e. ap (λ l. s.bytes ++ l) (end_is rest end more e) ∙ append-nil s.bytes);
     }) s.ran fails)
 
-complete_front : (bytes more : List ℕ) (xs : List Exchange) → executed xs ≡ meanings bytes → list_any is_stop (meanings bytes) ≡ false
-    → IsFront (executed xs) (lines_to_run (bytes ++ more))
-complete_front bytes more xs are none =
-    subst (λ l. IsFront l (lines_to_run (bytes ++ more))) (sym are) (lines_to_run (open_line bytes ++ more), run_front bytes more none)
+complete_front : (mode : Mode) (bytes more : List ℕ) (xs : List Exchange) → executed xs ≡ meanings mode bytes → list_any is_stop (meanings mode bytes) ≡ false
+    → IsFront (executed xs) (lines_to_run mode (bytes ++ more))
+complete_front mode bytes more xs are none =
+    subst (λ l. IsFront l (lines_to_run mode (bytes ++ more))) (sym are) (lines_to_run mode (open_line bytes ++ more), run_front mode bytes more none)
 
 -- what was executed, where all lines that are complete in what was taken were
-complete : (bytes : List ℕ) (xs : List Exchange) → executed xs ≡ meanings bytes → list_any is_stop (meanings bytes) ≡ false → AllComplete bytes xs
-complete bytes xs are none = record { lines_are = are; no_stop = ap (list_any is_stop) are ∙ none }
+complete : (mode : Mode) (bytes : List ℕ) (xs : List Exchange) → executed xs ≡ meanings mode bytes → list_any is_stop (meanings mode bytes) ≡ false → AllComplete mode bytes xs
+complete mode bytes xs are none = record { lines_are = are; no_stop = ap (list_any is_stop) are ∙ none }
 
 -- a session that ends so, where only complete lines were executed and nothing more is told of the state
-complete_by : (e : Fault) (first now : State → Type 0) (bytes front final taken more : List ℕ) (script rest : Option (List ℕ)) (a b c : Output) (before after : Option Takes)
-    → (x : Executes first now (meanings bytes) a b) → list_any is_stop (meanings bytes) ≡ false → taken ≡ bytes ++ more → taken ≡ front ++ final
-    → script ≡ prepend_known taken rest → Took front final before after → BeginsWith front x.exchanges
-    → ((bs : List ℕ) → IsFront (executed x.exchanges) (lines_to_run bs) → Among (Some e) bs x.exchanges)
-    → TakenAt (Some e) taken x.exchanges → Replied (Some e) front taken x.exchanges a.written c.written → c.acks ≡ b.acks
-    → ((s : State) (lines : List LineMeaning) → Tells (Some e) s (executed x.exchanges) lines) → ((s : State) → now s → Ends (Some e) s now)
-    → RunsPieces (Err e) first now script rest before after a c
-complete_by e first now bytes front final taken more script rest a b c before after x none joined split is took begins among taken_at replied acks tells ends =
+complete_by : (mode : Mode) (e : Fault) (first now : State → Type 0) (bytes front final taken more : List ℕ) (script rest : Option (List ℕ)) (a b c : Output) (before after : Option Takes)
+    → (x : Executes first now (meanings mode bytes) a b) → list_any is_stop (meanings mode bytes) ≡ false → taken ≡ bytes ++ more → taken ≡ front ++ final
+    → script ≡ prepend_known taken rest → Took front final before after → BeginsWith mode front x.exchanges
+    → ((bs : List ℕ) → IsFront (executed x.exchanges) (lines_to_run mode bs) → Among mode (Some e) bs x.exchanges)
+    → TakenAt mode (Some e) taken x.exchanges → Replied mode (Some e) front taken x.exchanges a.written c.written → c.acks ≡ b.acks
+    → ((s : State) (lines : List Spoken) → Tells (Some e) s (executed x.exchanges) lines) → ((s : State) → now s → Ends (Some e) s now)
+    → RunsPieces mode (Err e) first now script rest before after a c
+complete_by mode e first now bytes front final taken more script rest a b c before after x none joined split is took begins among taken_at replied acks tells ends =
     let xs : List Exchange = x.exchanges in
-    let among_all : (further : List ℕ) → Among (Some e) (taken ++ further) xs =
-    λ further. among (taken ++ further) (subst (λ bs. IsFront (executed xs) (lines_to_run bs)) (sym (ap (λ l. l ++ further) joined ∙ append_assoc bytes more further))
-    (complete_front bytes (more ++ further) xs x.lines_are none)) in
-    faulted e first now script rest before after a c (record {
+    let among_all : (further : List ℕ) → Among mode (Some e) (taken ++ further) xs =
+    λ further. among (taken ++ further) (subst (λ bs. IsFront (executed xs) (lines_to_run mode bs)) (sym (ap (λ l. l ++ further) joined ∙ append_assoc bytes more further))
+    (complete_front mode bytes (more ++ further) xs x.lines_are none)) in
+    faulted mode e first now script rest before after a c (record {
       exchanges = xs;
       answered = x.answered;
       front = front;
@@ -715,53 +718,53 @@ complete_by e first now bytes front final taken more script rest a b c before af
       script_is = is;
       took = took;
       begins = begins;
-      among_taken = subst (λ bs. Among (Some e) bs xs) (append-nil taken) (among_all []);
-      among_script = known (λ bs. Among (Some e) bs xs) taken script rest is (λ further _. among_all further);
+      among_taken = subst (λ bs. Among mode (Some e) bs xs) (append-nil taken) (among_all []);
+      among_script = known (λ bs. Among mode (Some e) bs xs) taken script rest is (λ further _. among_all further);
       taken_at = taken_at;
       read_out = tt;
       replied = replied;
-      acked = acked_all _ a.acks c.acks (acks_kept _ a.acks b.acks c.acks acks (executes_acked first now (meanings bytes) a b x));
+      acked = acked_all _ a.acks c.acks (acks_kept _ a.acks b.acks c.acks acks (executes_acked first now (meanings mode bytes) a b x));
       runs = λ s h. transcript_as s xs now _ (x.runs s h) (λ t g. record {
-        told = tells t (lines_to_run taken);
-        told_script = known (λ bs. Tells (Some e) t (executed xs) (lines_to_run bs)) taken script rest is (λ further _. tells t (lines_to_run (taken ++ further)));
+        told = tells t (lines_to_run mode taken);
+        told_script = known (λ bs. Tells (Some e) t (executed xs) (lines_to_run mode bs)) taken script rest is (λ further _. tells t (lines_to_run mode (taken ++ further)));
         reached = ends t g;
       });
     })
 
 -- the source's fault
-pub session_source : (first now : State → Type 0) (line : List ℕ) (taken : ℕ) (script rest : Option (List ℕ)) (a b : Output) (before at after : Option Takes)
-    → Stands first now line taken script rest a b before at → after ≡ option_map (takes_after []) at → RunsPieces (Err Source) first now script rest before after a b
-session_source first now line taken script rest a b before at after s told =
+pub session_source : (mode : Mode) (first now : State → Type 0) (line : List ℕ) (taken : ℕ) (script rest : Option (List ℕ)) (a b : Output) (before at after : Option Takes)
+    → Stands mode first now line taken script rest a b before at → after ≡ option_map (takes_after []) at → RunsPieces mode (Err Source) first now script rest before after a b
+session_source mode first now line taken script rest a b before at after s told =
     let p = parts_none s after told in
-    complete_by Source first now s.bytes s.bytes p.final s.bytes [] script rest a b b before after s.ran s.no_stop (sym (append-nil s.bytes)) p.taken_is p.script_is p.took
-    (begins_with s.bytes s.ran.exchanges _ [] s.ran.lines_are (sym (append-nil (meanings s.bytes))) s.no_stop) (λ bs h. h)
-    (p.few, complete s.bytes s.ran.exchanges s.ran.lines_are s.no_stop) s.ran.written refl (λ t ls. tt) (λ t g. g)
+    complete_by mode Source first now s.bytes s.bytes p.final s.bytes [] script rest a b b before after s.ran s.no_stop (sym (append-nil s.bytes)) p.taken_is p.script_is p.took
+    (begins_with mode s.bytes s.ran.exchanges _ [] s.ran.lines_are (sym (append-nil (meanings mode s.bytes))) s.no_stop) (λ bs h. h)
+    (p.few, complete mode s.bytes s.ran.exchanges s.ran.lines_are s.no_stop) s.ran.written refl (λ t ls. tt) (λ t g. g)
 
 neither_left : (a b : Bool) → (a || b) ≡ false → a ≡ false
 neither_left true b e = cc
 neither_left false b e = refl
 
 -- what is complete in a front of some bytes comes first
-begins_front : (front final bytes : List ℕ) (xs : List Exchange) → bytes ≡ front ++ final → executed xs ≡ meanings bytes
-    → list_any is_stop (meanings bytes) ≡ false → BeginsWith front xs
-begins_front front final bytes xs split are none =
-    let more : List LineMeaning = meanings (open_line front ++ final) in
-    let lines : meanings bytes ≡ meanings front ++ more =
-    ap meanings split ∙ ap (map line_of) (whole_lines-more front final) ∙ map-append line_of (whole_lines front) (whole_lines (open_line front ++ final)) in
-    begins_with front xs (meanings bytes) more are lines
-    (neither_left (list_any is_stop (meanings front)) (list_any is_stop more)
-    (sym (list_any-append is_stop (meanings front) more) ∙ sym (ap (list_any is_stop) lines) ∙ none))
+begins_front : (mode : Mode) (front final bytes : List ℕ) (xs : List Exchange) → bytes ≡ front ++ final → executed xs ≡ meanings mode bytes
+    → list_any is_stop (meanings mode bytes) ≡ false → BeginsWith mode front xs
+begins_front mode front final bytes xs split are none =
+    let more : List Spoken = meanings mode (open_line front ++ final) in
+    let lines : meanings mode bytes ≡ meanings mode front ++ more =
+    ap (meanings mode) split ∙ ap (map (spoken mode)) (whole_lines-more front final) ∙ map-append (spoken mode) (whole_lines front) (whole_lines (open_line front ++ final)) in
+    begins_with mode front xs (meanings mode bytes) more are lines
+    (neither_left (list_any is_stop (meanings mode front)) (list_any is_stop more)
+    (sym (list_any-append is_stop (meanings mode front) more) ∙ sym (ap (list_any is_stop) lines) ∙ none))
 
 -- the sink's fault where it has to pass on the replies before a take
-pub session_keeps : (first now : State → Type 0) (line : List ℕ) (taken : ℕ) (script rest : Option (List ℕ)) (a b c : Output) (before at : Option Takes)
-    → Stands first now line taken script rest a b before at → c.written ≡ b.written → c.acks ≡ b.acks
-    → RunsPieces (Err Sink) first now script rest before at a c
-session_keeps first now line taken script rest a b c before at s same acks =
-    complete_by Sink first now s.bytes s.front s.final s.bytes [] script rest a b c before at s.ran s.no_stop (sym (append-nil s.bytes)) s.split s.taken_is s.took
-    (begins_front s.front s.final s.bytes s.ran.exchanges s.split s.ran.lines_are s.no_stop) (λ bs h. h) (omega (arith, s.count, s.few))
-    (inr (record { written = same ∙ s.ran.written; lines_are = inl (complete s.bytes s.ran.exchanges s.ran.lines_are s.no_stop) })) acks (λ t ls. tt) (λ t g. g)
+pub session_keeps : (mode : Mode) (first now : State → Type 0) (line : List ℕ) (taken : ℕ) (script rest : Option (List ℕ)) (a b c : Output) (before at : Option Takes)
+    → Stands mode first now line taken script rest a b before at → c.written ≡ b.written → c.acks ≡ b.acks
+    → RunsPieces mode (Err Sink) first now script rest before at a c
+session_keeps mode first now line taken script rest a b c before at s same acks =
+    complete_by mode Sink first now s.bytes s.front s.final s.bytes [] script rest a b c before at s.ran s.no_stop (sym (append-nil s.bytes)) s.split s.taken_is s.took
+    (begins_front mode s.front s.final s.bytes s.ran.exchanges s.split s.ran.lines_are s.no_stop) (λ bs h. h) (omega (arith, s.count, s.few))
+    (inr (record { written = same ∙ s.ran.written; lines_are = inl (complete mode s.bytes s.ran.exchanges s.ran.lines_are s.no_stop) })) acks (λ t ls. tt) (λ t g. g)
 
-all_front : (xs ys : List LineMeaning) → xs ≡ ys → IsFront xs ys
+all_front : (xs ys : List Spoken) → xs ≡ ys → IsFront xs ys
 all_front xs ys is = ([], sym is ∙ sym (append-nil xs))
 
 -- ---- after the last line
@@ -782,9 +785,9 @@ closed_fault : (e : Fault) (now : State → Type 0) (stopped : Bool) (s : State)
 closed_fault e now stopped s h = record { calls = s.calls; later = omega arith; reached = h }
 
 -- a session that a fault ended
-pub session_faulted : (e : Fault) (first now : State → Type 0) (script rest : Option (List ℕ)) (a b : Output) (before at : Option Takes)
-    → RunsPieces (Err e) first now script rest before at a b → Session (Some e) first (ClosedAt (Some e) now) (acks_at_end (Some e)) script rest before at a b
-session_faulted e first now script rest a b before at r =
+pub session_faulted : (mode : Mode) (e : Fault) (first now : State → Type 0) (script rest : Option (List ℕ)) (a b : Output) (before at : Option Takes)
+    → RunsPieces mode (Err e) first now script rest before at a b → Session mode (Some e) first (ClosedAt (Some e) now) (acks_at_end (Some e)) script rest before at a b
+session_faulted mode e first now script rest a b before at r =
     let s = r.session in
     record {
       exchanges = s.exchanges;
@@ -802,7 +805,7 @@ session_faulted e first now script rest a b before at r =
       read_out = s.read_out;
       replied = s.replied;
       acked = s.acked;
-      runs = λ t h. transcript_as t s.exchanges (EndsIn (Some e) s.exchanges s.taken script (λ _. now)) _ (s.runs t h)
+      runs = λ t h. transcript_as t s.exchanges (EndsIn mode (Some e) s.exchanges s.taken script (λ _. now)) _ (s.runs t h)
           (λ u g. record {
             told = g.told;
             told_script = g.told_script;
@@ -811,17 +814,17 @@ session_faulted e first now script rest a b before at r =
     }
 
 -- a session that executed all lines, and what follows
-session_then : (end : Option Fault) (flow : ControlFlow (Unit {0}) (Unit {0})) (first mid : State → Type 0) (last : Bool → State → Type 0) (more : Bool → ℕ)
+session_then : (mode : Mode) (end : Option Fault) (flow : ControlFlow (Unit {0}) (Unit {0})) (first mid : State → Type 0) (last : Bool → State → Type 0) (more : Bool → ℕ)
     (script rest : Option (List ℕ)) (a b c : Output) (before at : Option Takes)
-    → RunsPieces (Ok flow) first mid script rest before at a b → c.written ≡ b.written → HasAcked (more (breaks flow)) b.acks c.acks
-    → ((bytes : List ℕ) (xs : List Exchange) → executed xs ≡ lines_to_run bytes → Among end bytes xs)
-    → ((taken : List ℕ) (xs : List Exchange) → length taken ≤ script_limit → TakenAt end taken xs)
+    → RunsPieces mode (Ok flow) first mid script rest before at a b → c.written ≡ b.written → HasAcked (more (breaks flow)) b.acks c.acks
+    → ((bytes : List ℕ) (xs : List Exchange) → executed xs ≡ lines_to_run mode bytes → Among mode end bytes xs)
+    → ((taken : List ℕ) (xs : List Exchange) → length taken ≤ script_limit → TakenAt mode end taken xs)
     → ((xs : List Exchange) (final : List ℕ) → ReadOut None xs final rest → ReadOut end xs final rest)
-    → ((front taken : List ℕ) (xs : List Exchange) → c.written ≡ append_known a.written (text xs) → executed xs ≡ lines_to_run taken → Replied end front taken xs a.written c.written)
-    → ((s : State) (done lines : List LineMeaning) → Tells end s done lines)
+    → ((front taken : List ℕ) (xs : List Exchange) → c.written ≡ append_known a.written (text xs) → executed xs ≡ lines_to_run mode taken → Replied mode end front taken xs a.written c.written)
+    → ((s : State) (done lines : List Spoken) → Tells end s done lines)
     → ((s : State) → mid s → Ends end s (last (breaks flow)))
-    → Session end first last more script rest before at a c
-session_then end flow first mid last more script rest a b c before at r same acks among taken_at read replied tells ends =
+    → Session mode end first last more script rest before at a c
+session_then mode end flow first mid last more script rest a b c before at r same acks among taken_at read replied tells ends =
     let s = r.session in
     record {
       exchanges = s.exchanges;
@@ -840,92 +843,92 @@ session_then end flow first mid last more script rest a b c before at r same ack
       replied = replied s.front s.taken s.exchanges (same ∙ s.replied) s.among_taken;
       acked = acks_as _ _ a.acks c.acks (omega (arith, ap more r.flow))
           (acks_then (durable (executed s.exchanges) + 0) (more (breaks flow)) a.acks b.acks c.acks s.acked acks);
-      runs = λ t h. transcript_as t s.exchanges (EndsIn None s.exchanges s.taken script (λ _. mid)) _ (s.runs t h)
+      runs = λ t h. transcript_as t s.exchanges (EndsIn mode None s.exchanges s.taken script (λ _. mid)) _ (s.runs t h)
           (λ u g. record {
-            told = tells u (executed s.exchanges) (lines_to_run s.taken);
+            told = tells u (executed s.exchanges) (lines_to_run mode s.taken);
             told_script = each u (executed s.exchanges) script;
             reached = subst (λ k. Ends end u (last k)) r.flow (ends u g.reached);
           });
     }
   where
-    by : (xs : List Exchange) (o : Option (List ℕ)) → IfSome o (λ bytes. executed xs ≡ lines_to_run bytes) → IfSome o (λ bytes. Among end bytes xs)
+    by : (xs : List Exchange) (o : Option (List ℕ)) → IfSome o (λ bytes. executed xs ≡ lines_to_run mode bytes) → IfSome o (λ bytes. Among mode end bytes xs)
     by xs None h = tt
     by xs (Some bytes) h = among bytes xs h
 
-    each : (u : State) (done : List LineMeaning) (o : Option (List ℕ)) → IfSome o (λ bytes. Tells end u done (lines_to_run bytes))
+    each : (u : State) (done : List Spoken) (o : Option (List ℕ)) → IfSome o (λ bytes. Tells end u done (lines_to_run mode bytes))
     each u done None = tt
-    each u done (Some bytes) = tells u done (lines_to_run bytes)
+    each u done (Some bytes) = tells u done (lines_to_run mode bytes)
 
 -- no more acknowledgements
 none_since : (b c : List Ack) → c ≡ b → HasAcked 0 b c
 none_since b c same = acks_kept 0 b b c same (acks_none b)
 
 -- the sink's fault where it has to pass on the last replies
-pub session_keeps_last : (first now : State → Type 0) (flow : ControlFlow (Unit {0}) (Unit {0})) (script rest : Option (List ℕ)) (a b c : Output) (before at : Option Takes)
-    → RunsPieces (Ok flow) first now script rest before at a b → c.written ≡ b.written → c.acks ≡ b.acks
-    → Session (Some Sink) first (ClosedAt (Some Sink) now) (acks_at_end (Some Sink)) script rest before at a c
-session_keeps_last first now flow script rest a b c before at r same acks =
-    session_then (Some Sink) flow first now (ClosedAt (Some Sink) now) (acks_at_end (Some Sink)) script rest a b c before at r same (none_since b.acks c.acks acks)
-    (λ bs xs h. all_front (executed xs) (lines_to_run bs) h) (λ taken xs h. h) (λ xs final h. tt)
+pub session_keeps_last : (mode : Mode) (first now : State → Type 0) (flow : ControlFlow (Unit {0}) (Unit {0})) (script rest : Option (List ℕ)) (a b c : Output) (before at : Option Takes)
+    → RunsPieces mode (Ok flow) first now script rest before at a b → c.written ≡ b.written → c.acks ≡ b.acks
+    → Session mode (Some Sink) first (ClosedAt (Some Sink) now) (acks_at_end (Some Sink)) script rest before at a c
+session_keeps_last mode first now flow script rest a b c before at r same acks =
+    session_then mode (Some Sink) flow first now (ClosedAt (Some Sink) now) (acks_at_end (Some Sink)) script rest a b c before at r same (none_since b.acks c.acks acks)
+    (λ bs xs h. all_front (executed xs) (lines_to_run mode bs) h) (λ taken xs h. h) (λ xs final h. tt)
     (λ front taken xs written lines. inr (record { written = written; lines_are = inr lines })) (λ u done lines. tt) (λ u h. closed_fault Sink now (breaks flow) u h)
 
 -- all was made durable, where no `stop` did so
-pub session_closed : (first mid now : State → Type 0) (flow : ControlFlow (Unit {0}) (Unit {0})) (script rest : Option (List ℕ)) (a b c : Output) (before at : Option Takes)
-    → RunsPieces (Ok flow) first mid script rest before at a b → c.written ≡ b.written → HasAcked (acks_at_end None (breaks flow)) b.acks c.acks
+pub session_closed : (mode : Mode) (first mid now : State → Type 0) (flow : ControlFlow (Unit {0}) (Unit {0})) (script rest : Option (List ℕ)) (a b c : Output) (before at : Option Takes)
+    → RunsPieces mode (Ok flow) first mid script rest before at a b → c.written ≡ b.written → HasAcked (acks_at_end None (breaks flow)) b.acks c.acks
     → ((s : State) → mid s → ClosedAt None now (breaks flow) s)
-    → Session None first (ClosedAt None now) (acks_at_end None) script rest before at a c
-session_closed first mid now flow script rest a b c before at r same acks closes =
-    session_then None flow first mid (ClosedAt None now) (acks_at_end None) script rest a b c before at r same acks (λ bs xs h. h)
+    → Session mode None first (ClosedAt None now) (acks_at_end None) script rest before at a c
+session_closed mode first mid now flow script rest a b c before at r same acks closes =
+    session_then mode None flow first mid (ClosedAt None now) (acks_at_end None) script rest a b c before at r same acks (λ bs xs h. h)
     (λ taken xs h. h) (λ xs final h. h) (λ front taken xs written lines. written) (λ u done lines. tt) closes
 
 -- the last sync failed
-pub session_unclosed : (e : Fault) (first mid now : State → Type 0) (flow : ControlFlow (Unit {0}) (Unit {0})) (script rest : Option (List ℕ)) (a b c : Output) (before at : Option Takes)
-    → (e ≡ Device) ⊎ (e ≡ Memory) → RunsPieces (Ok flow) first mid script rest before at a b → c.written ≡ b.written → c.acks ≡ b.acks
+pub session_unclosed : (mode : Mode) (e : Fault) (first mid now : State → Type 0) (flow : ControlFlow (Unit {0}) (Unit {0})) (script rest : Option (List ℕ)) (a b c : Output) (before at : Option Takes)
+    → (e ≡ Device) ⊎ (e ≡ Memory) → RunsPieces mode (Ok flow) first mid script rest before at a b → c.written ≡ b.written → c.acks ≡ b.acks
     → ((s : State) → mid s → Later (with_view s s.view) now s)
-    → Session (Some e) first (ClosedAt (Some e) now) (acks_at_end (Some e)) script rest before at a c
-session_unclosed e first mid now flow script rest a b c before at (inl is) r same acks stays =
-    subst (λ f. Session (Some f) first (ClosedAt (Some f) now) (acks_at_end (Some f)) script rest before at a c) (sym is)
-    (session_then (Some Device) flow first mid (ClosedAt (Some Device) now) (acks_at_end (Some Device)) script rest a b c before at r same (none_since b.acks c.acks acks)
-    (λ bs xs h. all_front (executed xs) (lines_to_run bs) h) (λ taken xs h. h) (λ xs final h. tt) (λ front taken xs written lines. written) (λ u done lines. tt)
+    → Session mode (Some e) first (ClosedAt (Some e) now) (acks_at_end (Some e)) script rest before at a c
+session_unclosed mode e first mid now flow script rest a b c before at (inl is) r same acks stays =
+    subst (λ f. Session mode (Some f) first (ClosedAt (Some f) now) (acks_at_end (Some f)) script rest before at a c) (sym is)
+    (session_then mode (Some Device) flow first mid (ClosedAt (Some Device) now) (acks_at_end (Some Device)) script rest a b c before at r same (none_since b.acks c.acks acks)
+    (λ bs xs h. all_front (executed xs) (lines_to_run mode bs) h) (λ taken xs h. h) (λ xs final h. tt) (λ front taken xs written lines. written) (λ u done lines. tt)
     (λ u h. leaves_as u now (ClosedAt (Some Device) now (breaks flow)) (closed_fault Device now (breaks flow)) (leaves_later u now (stays u h))))
-session_unclosed e first mid now flow script rest a b c before at (inr is) r same acks stays =
-    subst (λ f. Session (Some f) first (ClosedAt (Some f) now) (acks_at_end (Some f)) script rest before at a c) (sym is)
-    (session_then (Some Memory) flow first mid (ClosedAt (Some Memory) now) (acks_at_end (Some Memory)) script rest a b c before at r same (none_since b.acks c.acks acks)
-    (λ bs xs h. all_front (executed xs) (lines_to_run bs) h) (λ taken xs h. h) (λ xs final h. tt) (λ front taken xs written lines. written) (λ u done lines. tt)
+session_unclosed mode e first mid now flow script rest a b c before at (inr is) r same acks stays =
+    subst (λ f. Session mode (Some f) first (ClosedAt (Some f) now) (acks_at_end (Some f)) script rest before at a c) (sym is)
+    (session_then mode (Some Memory) flow first mid (ClosedAt (Some Memory) now) (acks_at_end (Some Memory)) script rest a b c before at r same (none_since b.acks c.acks acks)
+    (λ bs xs h. all_front (executed xs) (lines_to_run mode bs) h) (λ taken xs h. h) (λ xs final h. tt) (λ front taken xs written lines. written) (λ u done lines. tt)
     (λ u h. leaves_as u now (ClosedAt (Some Memory) now (breaks flow)) (closed_fault Memory now (breaks flow)) (leaves_later u now (stays u h))))
 
 -- the last sync, with either end
-pub session_close : {T : Type 0} (r : Result T Fault) (first mid now : State → Type 0) (flow : ControlFlow (Unit {0}) (Unit {0})) (script rest : Option (List ℕ)) (a b c : Output)
-    (before at : Option Takes) → RunsPieces (Ok flow) first mid script rest before at a b → c.written ≡ b.written → breaks flow ≡ false
+pub session_close : (mode : Mode) {T : Type 0} (r : Result T Fault) (first mid now : State → Type 0) (flow : ControlFlow (Unit {0}) (Unit {0})) (script rest : Option (List ℕ)) (a b c : Output)
+    (before at : Option Takes) → RunsPieces mode (Ok flow) first mid script rest before at a b → c.written ≡ b.written → breaks flow ≡ false
     → OnOk r ((s : State) → mid s → Later (synced_state s) now s) → OnErr r ((s : State) → mid s → Later (with_view s s.view) now s)
     → OnOk r (HasAcked 1 b.acks c.acks) → OnErr r (c.acks ≡ b.acks) → IfErr r (λ e. (e ≡ Device) ⊎ (e ≡ Memory))
-    → Session (end_of r) first (ClosedAt (end_of r) now) (acks_at_end (end_of r)) script rest before at a c
-session_close (Ok x) first mid now flow script rest a b c before at s same on ok err acked unacked kind =
-    session_closed first mid now flow script rest a b c before at s same (subst (λ t. HasAcked (acks_at_end None t) b.acks c.acks) (sym on) acked)
+    → Session mode (end_of r) first (ClosedAt (end_of r) now) (acks_at_end (end_of r)) script rest before at a c
+session_close mode (Ok x) first mid now flow script rest a b c before at s same on ok err acked unacked kind =
+    session_closed mode first mid now flow script rest a b c before at s same (subst (λ t. HasAcked (acks_at_end None t) b.acks c.acks) (sym on) acked)
     (λ u h. subst (λ t. ClosedAt None now t u) (sym on) (ok u h))
-session_close (Err e) first mid now flow script rest a b c before at s same on ok err acked unacked kind =
-    session_unclosed e first mid now flow script rest a b c before at kind s same unacked err
+session_close mode (Err e) first mid now flow script rest a b c before at s same on ok err acked unacked kind =
+    session_unclosed mode e first mid now flow script rest a b c before at kind s same unacked err
 
 -- a `stop` made all durable
-pub session_stopped : (first now : State → Type 0) (flow : ControlFlow (Unit {0}) (Unit {0})) (script rest : Option (List ℕ)) (a b c : Output) (before at : Option Takes)
-    → RunsPieces (Ok flow) first now script rest before at a b → c.written ≡ b.written → c.acks ≡ b.acks → breaks flow ≡ true
-    → Session None first (ClosedAt None now) (acks_at_end None) script rest before at a c
-session_stopped first now flow script rest a b c before at s same acks off =
-    session_closed first now now flow script rest a b c before at s same (subst (λ t. HasAcked (acks_at_end None t) b.acks c.acks) (sym off) (none_since b.acks c.acks acks))
+pub session_stopped : (mode : Mode) (first now : State → Type 0) (flow : ControlFlow (Unit {0}) (Unit {0})) (script rest : Option (List ℕ)) (a b c : Output) (before at : Option Takes)
+    → RunsPieces mode (Ok flow) first now script rest before at a b → c.written ≡ b.written → c.acks ≡ b.acks → breaks flow ≡ true
+    → Session mode None first (ClosedAt None now) (acks_at_end None) script rest before at a c
+session_stopped mode first now flow script rest a b c before at s same acks off =
+    session_closed mode first now now flow script rest a b c before at s same (subst (λ t. HasAcked (acks_at_end None t) b.acks c.acks) (sym off) (none_since b.acks c.acks acks))
     (λ u h. subst (λ t. ClosedAt None now t u) (sym off) (record { calls = u.calls; later = omega arith; reached = h }))
 
 -- a byte past the limit
-pub session_too_long : (first now : State → Type 0) (line piece : List ℕ) (taken : ℕ) (script left rest : Option (List ℕ)) (a b : Output) (before at after : Option Takes)
-    → Stands first now line taken script left a b before at → taken ≡ script_limit → left ≡ prepend_known piece rest → length piece ≡ 1
-    → after ≡ option_map (takes_after piece) at → RunsPieces (Err TooLong) first now script rest before after a b
-session_too_long first now line piece taken script left rest a b before at after s full got one told =
+pub session_too_long : (mode : Mode) (first now : State → Type 0) (line piece : List ℕ) (taken : ℕ) (script left rest : Option (List ℕ)) (a b : Output) (before at after : Option Takes)
+    → Stands mode first now line taken script left a b before at → taken ≡ script_limit → left ≡ prepend_known piece rest → length piece ≡ 1
+    → after ≡ option_map (takes_after piece) at → RunsPieces mode (Err TooLong) first now script rest before after a b
+session_too_long mode first now line piece taken script left rest a b before at after s full got one told =
     let is = s.taken_is ∙ ap (prepend_known s.bytes) got ∙ prepend_known-append s.bytes piece rest in
     let cut : take script_limit (s.bytes ++ piece) ≡ s.bytes = ap (λ n. take n (s.bytes ++ piece)) (sym (s.count ∙ full)) ∙ take-append_seam s.bytes piece in
-    complete_by TooLong first now s.bytes s.bytes piece (s.bytes ++ piece) piece script rest a b b before after s.ran s.no_stop refl refl is
+    complete_by mode TooLong first now s.bytes s.bytes piece (s.bytes ++ piece) piece script rest a b b before after s.ran s.no_stop refl refl is
     (took s.bytes piece before at after (omega (arith, one)) s.idle told)
-    (begins_with s.bytes s.ran.exchanges _ [] s.ran.lines_are (sym (append-nil (meanings s.bytes))) s.no_stop) (λ bs h. h) (
+    (begins_with mode s.bytes s.ran.exchanges _ [] s.ran.lines_are (sym (append-nil (meanings mode s.bytes))) s.no_stop) (λ bs h. h) (
       omega (arith, length-append s.bytes piece, s.count, full, one),
-      record { lines_are = s.ran.lines_are ∙ ap meanings (sym cut); no_stop = ap (list_any is_stop) s.ran.lines_are ∙ s.no_stop },
+      record { lines_are = s.ran.lines_are ∙ ap (meanings mode) (sym cut); no_stop = ap (list_any is_stop) s.ran.lines_are ∙ s.no_stop },
     ) s.ran.written refl (λ t ls. tt) (λ t g. g)
 
 -- what is said of either end of a call, of its end

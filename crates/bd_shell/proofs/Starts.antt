@@ -13,7 +13,7 @@ use Rattle.bd_volume.specs.declared.volume.Volume.{Volume}
 use Rattle.bd_shell.specs.declared.acknowledged.Acknowledged.{Acknowledged}
 use Rattle.bd_shell.specs.Transcript.{Point, state_at, point}
 use Rattle.bd_shell.specs.Crashes.{IsAtPoint, IsSafeSince}
-use Rattle.bd_shell.specs.Shell.{KeptAt, device_below}
+use Rattle.bd_shell.specs.Shell.{TurnsAt, device_below}
 use Rattle.bd_shell.proofs.Surviving.{safe_first}
 
 -- what stands for the tree of the beginning is at its point, which was passed
@@ -33,9 +33,12 @@ safe_start g old new t n v started =
 -- a volume that started, of which nothing is acknowledged yet
 pub kept_start : {D : Type 0} (g : Ghosts D) (old : D) (k : Acknowledged D) (v : Volume D) (t : Tree) (n : ℕ) → k.volume ≡ v → k.acks.items ≡ []
     → StandsFor g v t n → HasStarted g old (device_of v) t n
-    → KeptAt g (device_below k) (g.call_count old + 1) k (state_at t n (view_of g k.volume) (g.call_count (device_below k)))
+    → TurnsAt g (device_below k) (g.call_count old + 1) k (state_at t n (view_of g k.volume) (g.call_count (device_below k)))
 kept_start g old k v t n is none stands started = record {
-  at = record { stands = subst (λ w. StandsFor g w t n) (sym is) stands; view_is = refl };
-  safe = subst (λ acks. IsSafeSince g (device_below k) (g.call_count old + 1) (device_below k) acks (state_at t n (view_of g k.volume) (g.call_count (device_below k)))) (sym none)
-      (safe_start g old (device_below k) t n (view_of g k.volume) (subst (λ (w : Volume _). HasStarted g old (device_of w) t n) (sym is) started));
+  volume = record {
+    at = record { stands = subst (λ w. StandsFor g w t n) (sym is) stands; view_is = refl };
+    safe = subst (λ acks. IsSafeSince g (device_below k) (g.call_count old + 1) (device_below k) acks (state_at t n (view_of g k.volume) (g.call_count (device_below k)))) (sym none)
+        (safe_start g old (device_below k) t n (view_of g k.volume) (subst (λ (w : Volume _). HasStarted g old (device_of w) t n) (sym is) started));
+  };
+  handles = refl;
 }

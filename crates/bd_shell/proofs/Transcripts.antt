@@ -4,11 +4,11 @@ use Rattle.std.specs.Prelude.{◌||◌}
 use Rattle.std.specs.List.{list_any}
 use Rattle.std.proofs.lemmas.List.{map-append}
 use Rattle.std.proofs.lemmas.Grind.{flat_map-append}
-use Rattle.bd_script.specs.Lines.{LineMeaning, is_stop, up_to_stop}
-use Rattle.bd_script.specs.Replies.{line_reply_line}
-use Rattle.bd_script.specs.declared.replies.LineReply.{LineReply}
+use Rattle.bd_sessions.specs.Replies.{said_line}
+use Rattle.bd_sessions.specs.Spoken.{Spoken, is_stop, up_to_stop}
+use Rattle.bd_sessions.specs.declared.replies.TurnReply.{TurnReply}
 use Rattle.bd_shell.specs.Transcript.{State, Exchange, Entry, IsTranscript, HasTranscript, text, executed, exchange_of, exchanges_of, state_after, IsFront}
-use Rattle.bd_shell.specs.Shell.{Replies}
+use Rattle.bd_shell.specs.Shell.{RepliesTo}
 
 -- a transcript, and one from the state after it
 pub IsTranscript-append : (s : State) (es fs : List Entry) → IsTranscript s es → IsTranscript (state_after s es) fs
@@ -21,7 +21,7 @@ state_after-append s [] fs = refl
 state_after-append s (e ∷ es) fs = state_after-append e.state es fs
 
 pub text-append : (xs ys : List Exchange) → text (xs ++ ys) ≡ text xs ++ text ys
-text-append xs ys = flat_map-append (λ x. line_reply_line x.said) xs ys
+text-append xs ys = flat_map-append (λ x. said_line x.line.client x.said) xs ys
 
 pub executed-append : (xs ys : List Exchange) → executed (xs ++ ys) ≡ executed xs ++ executed ys
 executed-append xs ys = map-append (λ x. x.line) xs ys
@@ -36,7 +36,7 @@ pub transcript_none : (s : State) (at : State → Type 0) → at s → HasTransc
 transcript_none s at h = record { entries = []; exchanges_are = refl; transcript = tt; reached = h }
 
 -- one line
-pub transcript_one : (s : State) (line : LineMeaning) (said : LineReply) (at : State → Type 0) → Replies s line said at
+pub transcript_one : (s : State) (line : Spoken) (said : TurnReply) (at : State → Type 0) → RepliesTo s line said at
     → HasTranscript s (record { line = line; said = said } ∷ []) at
 transcript_one s line said at x = record {
   entries = record { line = line; said = said; state = x.after } ∷ [];
@@ -78,7 +78,7 @@ IsFront-trans xs ys zs h g = (h.0 ++ g.0, g.1 ∙ ap (λ l. l ++ g.0) h.1 ∙ ap
 
 -- ---- up to the first `stop`
 
-pub up_to_stop-none : (ls : List LineMeaning) → list_any is_stop ls ≡ false → up_to_stop ls ≡ ls
+pub up_to_stop-none : (ls : List Spoken) → list_any is_stop ls ≡ false → up_to_stop ls ≡ ls
 up_to_stop-none [] e = refl
 up_to_stop-none (l ∷ ls) e = by (is_stop l) e (up_to_stop-none ls)
   where
@@ -88,7 +88,7 @@ up_to_stop-none (l ∷ ls) e = by (is_stop l) e (up_to_stop-none ls)
     by false h f = ap (λ r. l ∷ r) (f h)
 
 -- a `stop` is among them where it is among all
-pub up_to_stop-any : (ls : List LineMeaning) → list_any is_stop (up_to_stop ls) ≡ list_any is_stop ls
+pub up_to_stop-any : (ls : List Spoken) → list_any is_stop (up_to_stop ls) ≡ list_any is_stop ls
 up_to_stop-any [] = refl
 up_to_stop-any (l ∷ ls) = by (is_stop l) (up_to_stop-any ls)
   where
@@ -98,7 +98,7 @@ up_to_stop-any (l ∷ ls) = by (is_stop l) (up_to_stop-any ls)
     by false h = h
 
 -- what stands after a `stop` doesn't count
-pub up_to_stop-stopped : (ls ms : List LineMeaning) → list_any is_stop ls ≡ true → up_to_stop (ls ++ ms) ≡ up_to_stop ls
+pub up_to_stop-stopped : (ls ms : List Spoken) → list_any is_stop ls ≡ true → up_to_stop (ls ++ ms) ≡ up_to_stop ls
 up_to_stop-stopped [] ms e = cc
 up_to_stop-stopped (l ∷ ls) ms e = by (is_stop l) e (up_to_stop-stopped ls ms)
   where
@@ -108,7 +108,7 @@ up_to_stop-stopped (l ∷ ls) ms e = by (is_stop l) e (up_to_stop-stopped ls ms)
     by true h f = refl
     by false h f = ap (λ r. l ∷ r) (f h)
 
-pub up_to_stop-append : (ls ms : List LineMeaning) → list_any is_stop ls ≡ false → up_to_stop (ls ++ ms) ≡ ls ++ up_to_stop ms
+pub up_to_stop-append : (ls ms : List Spoken) → list_any is_stop ls ≡ false → up_to_stop (ls ++ ms) ≡ ls ++ up_to_stop ms
 up_to_stop-append [] ms e = refl
 up_to_stop-append (l ∷ ls) ms e = by (is_stop l) e (up_to_stop-append ls ms)
   where
@@ -119,7 +119,7 @@ up_to_stop-append (l ∷ ls) ms e = by (is_stop l) e (up_to_stop-append ls ms)
     by false h f = ap (λ r. l ∷ r) (f h)
 
 -- one line is all that stands up to its `stop`
-pub up_to_stop-one : (l : LineMeaning) → up_to_stop (l ∷ []) ≡ l ∷ []
+pub up_to_stop-one : (l : Spoken) → up_to_stop (l ∷ []) ≡ l ∷ []
 up_to_stop-one l = by (is_stop l)
   where
     by : (s : Bool) → l ∷ cond s [] [] ≡ l ∷ []
@@ -127,7 +127,7 @@ up_to_stop-one l = by (is_stop l)
     by false = refl
 
 -- what stands up to the `stop` of a front stands at the front of what stands up to that of all
-pub up_to_stop_front : (xs ys : List LineMeaning) → IsFront (up_to_stop xs) (up_to_stop (xs ++ ys))
+pub up_to_stop_front : (xs ys : List Spoken) → IsFront (up_to_stop xs) (up_to_stop (xs ++ ys))
 up_to_stop_front [] ys = (up_to_stop ys, refl)
 up_to_stop_front (x ∷ xs) ys = by (is_stop x) (up_to_stop_front xs ys)
   where
@@ -136,7 +136,7 @@ up_to_stop_front (x ∷ xs) ys = by (is_stop x) (up_to_stop_front xs ys)
     by true h = ([], refl)
     by false h = (h.0, ap (λ l. x ∷ l) h.1)
 
-pub up_to_stop-few : (ls : List LineMeaning) → length (up_to_stop ls) ≤ length ls
+pub up_to_stop-few : (ls : List Spoken) → length (up_to_stop ls) ≤ length ls
 up_to_stop-few [] = omega arith
 up_to_stop-few (l ∷ ls) = by (is_stop l) (up_to_stop-few ls)
   where

@@ -15,16 +15,18 @@ use Rattle.bd_command.specs.declared.Command.{Command}
 use Rattle.bd_message.specs.declared.fault.Counter.{Counter}
 use Rattle.bd_message.specs.declared.fault.Counter.TheVariants.{Epoch}
 use Rattle.bd_model.specs.Step.{refusal_of}
-use Rattle.bd_script.specs.Lines.{LineMeaning, is_stop}
-use Rattle.bd_script.specs.Replies.{line_reply_line}
+use Rattle.bd_script.specs.Lines.{LineMeaning}
+use Rattle.bd_script.specs.declared.line.Line.{Line}
 use Rattle.bd_script.specs.declared.line.Line.TheVariants.{Run, Walk, Df, Sync, Checkpoint, Reclaim, Stop}
+use Rattle.bd_sessions.specs.Replies.{said_line}
+use Rattle.bd_sessions.specs.Spoken.{Spoken, Mode, is_stop}
 use Rattle.bd_view.specs.Views.{View, free_slots, save_slots}
 use Rattle.bd_view.specs.Moves.{HasStepped}
 use Rattle.bd_volume.specs.Wears.{Wears, HasBegunReclaiming, WearsReclaiming}
 use Rattle.bd_shell.specs.declared.fault.Fault.{Fault}
 use Rattle.bd_shell.specs.declared.fault.Fault.TheVariants.{Device, Damaged, Source, Memory, TooLong, Worn, Sink}
 use Rattle.bd_shell.specs.Taken.{Took}
-use Rattle.bd_shell.specs.Transcript.{Known, Output, State, with_view, synced_state, Exchange, IsAnswered, HasAcked, HasTranscript, durable, text, executed, meanings, lines_to_run, IsFront}
+use Rattle.bd_shell.specs.Transcript.{Known, Output, State, with_view, synced_state, Exchange, IsAnswered, HasAcked, HasTranscript, durable, line_in, text, executed, meanings, lines_to_run, IsFront}
 
 -- how a session ends: by a fault, or with the script
 abbrev pub end_of : {T : Type 0} → Result T Fault → Option Fault
@@ -41,7 +43,7 @@ breaks (Break b) = true
 -- these lines were executed and their replies written, whatever the volume stands for, and each
 -- that makes all durable was acknowledged; from each state at which `first` holds they have a
 -- transcript, after which `last` holds
-pub record Executes (first last : State → Type 0) (lines : List LineMeaning) (old new : Output)
+pub record Executes (first last : State → Type 0) (lines : List Spoken) (old new : Output)
     : Type 0 where
   pub exchanges : List Exchange
   pub answered : AllByRecursion IsAnswered exchanges
@@ -51,8 +53,8 @@ pub record Executes (first last : State → Type 0) (lines : List LineMeaning) (
   pub runs : (s : State) → first s → HasTranscript s exchanges last
 
 -- of these lines some were executed, from the first on, and a next one was there
-pub record HasNext (next : LineMeaning) (done lines : List LineMeaning) : Type 0 where
-  pub rest : List LineMeaning
+pub record HasNext (next : Spoken) (done lines : List Spoken) : Type 0 where
+  pub rest : List Spoken
   pub lines_are : lines ≡ done ++ next ∷ rest
 
 -- ---- what a fault of a line leaves
@@ -74,18 +76,27 @@ IsLeftBy (Ok Reclaim) s left = HasBegunReclaiming s.view left
 IsLeftBy (Ok Stop) s left = left ≡ s.view
 IsLeftBy (Err refusal) s left = left ≡ s.view
 
--- a fault of a line leaves tree and count, and this of the view, after this many calls of the
--- device; `at` holds of the state then
-pub record LeavesBy (line : LineMeaning) (s : State) (at : State → Type 0) : Type 0 where
+-- a fault leaves what one of the line that was executed does; where none was, it leaves the view
+abbrev pub IsLeftFor : Option Line → State → View → Type 0
+IsLeftFor None s left = left ≡ s.view
+IsLeftFor (Some line) s left = IsLeftBy (Ok line) s left
+
+-- so it does by what a line asks for
+abbrev pub IsLeftIn : Spoken → State → View → Type 0
+IsLeftIn line s left = IsLeftFor (line_in s line) s left
+
+-- a fault leaves tree and count, and this of the view, after this many calls of the device; `at`
+-- holds of the state then
+pub record LeavesBy (by : View → Type 0) (s : State) (at : State → Type 0) : Type 0 where
   pub left : View
-  pub by : IsLeftBy line s left
+  pub left_by : by left
   pub calls : ℕ
   pub later : s.calls ≤ calls
   pub reached : at (with_view s left calls)
 
 -- so does a fault of some line
 abbrev pub Leaves : State → (State → Type 0) → Type 0
-Leaves s at = (line : LineMeaning) × LeavesBy line s at
+Leaves s at = (line : Spoken) × LeavesBy (IsLeftIn line s) s at
 
 -- ---- worn counters
 
@@ -114,12 +125,21 @@ WornBy which s (Ok Reclaim) left = WearsReclaiming which s.view left
 WornBy which s (Ok Stop) left = ⊥
 WornBy which s (Err refusal) left = ⊥
 
+-- no counter is worn where no line was executed
+abbrev pub WornFor : Counter → State → Option Line → View → Type 0
+WornFor which s None left = ⊥
+WornFor which s (Some line) left = WornBy which s (Ok line) left
+
+-- what a line asks for wears the counter
+abbrev pub WornIn : Counter → State → Spoken → View → Type 0
+WornIn which s line left = WornFor which s (line_in s line) left
+
 -- of these lines a next one wore the counter
-pub record WornByNext (which : Counter) (s : State) (done lines : List LineMeaning) : Type 0 where
-  pub next : LineMeaning
+pub record WornByNext (which : Counter) (s : State) (done lines : List Spoken) : Type 0 where
+  pub next : Spoken
   pub has : HasNext next done lines
   pub left : View
-  pub worn : WornBy which s next left
+  pub worn : WornIn which s next left
 
 -- ---- what an end leaves of the lines
 
@@ -128,43 +148,43 @@ abbrev pub has_stop : List Exchange → Bool
 has_stop xs = list_any is_stop (executed xs)
 
 -- nothing was executed, or a next line was there
-abbrev pub IsAtLine : List Exchange → List LineMeaning → Type 0
-IsAtLine xs lines = (xs ≡ []) ⊎ ((next : LineMeaning) × HasNext next (executed xs) lines)
+abbrev pub IsAtLine : List Exchange → List Spoken → Type 0
+IsAtLine xs lines = (xs ≡ []) ⊎ ((next : Spoken) × HasNext next (executed xs) lines)
 
 -- how the executed lines stand to those of some bytes
-abbrev pub Among : Option Fault → List ℕ → List Exchange → Type 0
-Among None bytes xs = executed xs ≡ lines_to_run bytes
-Among (Some Device) bytes xs = IsFront (executed xs) (lines_to_run bytes)
-Among (Some (Damaged block)) bytes xs = IsAtLine xs (lines_to_run bytes)
-Among (Some Source) bytes xs = IsFront (executed xs) (lines_to_run bytes)
-Among (Some Memory) bytes xs = IsFront (executed xs) (lines_to_run bytes)
-Among (Some TooLong) bytes xs = IsFront (executed xs) (lines_to_run bytes)
-Among (Some (Worn which)) bytes xs = IsAtLine xs (lines_to_run bytes)
-Among (Some Sink) bytes xs = IsFront (executed xs) (lines_to_run bytes)
+abbrev pub Among : Mode → Option Fault → List ℕ → List Exchange → Type 0
+Among mode None bytes xs = executed xs ≡ lines_to_run mode bytes
+Among mode (Some Device) bytes xs = IsFront (executed xs) (lines_to_run mode bytes)
+Among mode (Some (Damaged block)) bytes xs = IsAtLine xs (lines_to_run mode bytes)
+Among mode (Some Source) bytes xs = IsFront (executed xs) (lines_to_run mode bytes)
+Among mode (Some Memory) bytes xs = IsFront (executed xs) (lines_to_run mode bytes)
+Among mode (Some TooLong) bytes xs = IsFront (executed xs) (lines_to_run mode bytes)
+Among mode (Some (Worn which)) bytes xs = IsAtLine xs (lines_to_run mode bytes)
+Among mode (Some Sink) bytes xs = IsFront (executed xs) (lines_to_run mode bytes)
 
 -- all lines that are complete in these bytes were executed, and none of them is `stop`
-pub record AllComplete (bytes : List ℕ) (xs : List Exchange) : Type 0 where
-  pub lines_are : executed xs ≡ meanings bytes
+pub record AllComplete (mode : Mode) (bytes : List ℕ) (xs : List Exchange) : Type 0 where
+  pub lines_are : executed xs ≡ meanings mode bytes
   pub no_stop : list_any is_stop (executed xs) ≡ false
 
 -- the lines that are complete in these bytes were executed before all others, and none of them is
 -- `stop`
-pub record BeginsWith (bytes : List ℕ) (xs : List Exchange) : Type 0 where
-  pub rest : List LineMeaning
-  pub lines_are : executed xs ≡ meanings bytes ++ rest
-  pub no_stop : list_any is_stop (meanings bytes) ≡ false
+pub record BeginsWith (mode : Mode) (bytes : List ℕ) (xs : List Exchange) : Type 0 where
+  pub rest : List Spoken
+  pub lines_are : executed xs ≡ meanings mode bytes ++ rest
+  pub no_stop : list_any is_stop (meanings mode bytes) ≡ false
 
 -- what was taken of the script when a session ends
-abbrev pub TakenAt : Option Fault → List ℕ → List Exchange → Type 0
-TakenAt None taken xs = length taken ≤ script_limit
-TakenAt (Some Device) taken xs = length taken ≤ script_limit
-TakenAt (Some (Damaged block)) taken xs = length taken ≤ script_limit
-TakenAt (Some Source) taken xs = (length taken ≤ script_limit) × AllComplete taken xs
-TakenAt (Some Memory) taken xs = length taken ≤ script_limit
-TakenAt (Some TooLong) taken xs =
-    (length taken ≡ script_limit + 1) × AllComplete (take script_limit taken) xs
-TakenAt (Some (Worn which)) taken xs = length taken ≤ script_limit
-TakenAt (Some Sink) taken xs = length taken ≤ script_limit
+abbrev pub TakenAt : Mode → Option Fault → List ℕ → List Exchange → Type 0
+TakenAt mode None taken xs = length taken ≤ script_limit
+TakenAt mode (Some Device) taken xs = length taken ≤ script_limit
+TakenAt mode (Some (Damaged block)) taken xs = length taken ≤ script_limit
+TakenAt mode (Some Source) taken xs = (length taken ≤ script_limit) × AllComplete mode taken xs
+TakenAt mode (Some Memory) taken xs = length taken ≤ script_limit
+TakenAt mode (Some TooLong) taken xs =
+    (length taken ≡ script_limit + 1) × AllComplete mode (take script_limit taken) xs
+TakenAt mode (Some (Worn which)) taken xs = length taken ≤ script_limit
+TakenAt mode (Some Sink) taken xs = length taken ≤ script_limit
 
 -- a session that ends well and without a `stop` read its script to the end: nothing is left of a
 -- known one, and the last take gave nothing
@@ -179,38 +199,40 @@ pub record IsCutShort (xs : List Exchange) (old new : Known) : Type 0 where
   pub front : List Exchange
   pub last : Exchange
   pub exchanges_are : xs ≡ front ++ last ∷ []
-  pub part : WrotePart (line_reply_line last.said) (append_known old (text front)) new
+  pub part : WrotePart (said_line last.line.client last.said) (append_known old (text front)) new
 
 -- a reply was cut short, and those of the lines that are complete in these bytes were written before
-pub record IsCutAfter (bytes : List ℕ) (xs : List Exchange) (old new : Known) : Type 0 where
+pub record IsCutAfter (mode : Mode) (bytes : List ℕ) (xs : List Exchange) (old new : Known)
+    : Type 0 where
   pub cut : IsCutShort xs old new
-  pub begins : BeginsWith bytes cut.front
+  pub begins : BeginsWith mode bytes cut.front
 
 -- all replies were written, and the sink didn't pass them on: before a take, when all lines that are
 -- complete in what was taken were executed, or at the end
-pub record IsKeptBack (taken : List ℕ) (xs : List Exchange) (old new : Known) : Type 0 where
+pub record IsKeptBack (mode : Mode) (taken : List ℕ) (xs : List Exchange) (old new : Known)
+    : Type 0 where
   pub written : new ≡ append_known old (text xs)
-  pub lines_are : AllComplete taken xs ⊎ (executed xs ≡ lines_to_run taken)
+  pub lines_are : AllComplete mode taken xs ⊎ (executed xs ≡ lines_to_run mode taken)
 
 -- what was written of the replies when a session ends, which took `front` before its last take, and
 -- `taken` in all
 abbrev pub Replied :
-    Option Fault → List ℕ → List ℕ → List Exchange → Known → Known → Type 0
-Replied None front taken xs old new = new ≡ append_known old (text xs)
-Replied (Some Device) front taken xs old new = new ≡ append_known old (text xs)
-Replied (Some (Damaged block)) front taken xs old new = new ≡ append_known old (text xs)
-Replied (Some Source) front taken xs old new = new ≡ append_known old (text xs)
-Replied (Some Memory) front taken xs old new = new ≡ append_known old (text xs)
-Replied (Some TooLong) front taken xs old new = new ≡ append_known old (text xs)
-Replied (Some (Worn which)) front taken xs old new = new ≡ append_known old (text xs)
-Replied (Some Sink) front taken xs old new =
-    IsCutAfter front xs old new ⊎ IsKeptBack taken xs old new
+    Mode → Option Fault → List ℕ → List ℕ → List Exchange → Known → Known → Type 0
+Replied mode None front taken xs old new = new ≡ append_known old (text xs)
+Replied mode (Some Device) front taken xs old new = new ≡ append_known old (text xs)
+Replied mode (Some (Damaged block)) front taken xs old new = new ≡ append_known old (text xs)
+Replied mode (Some Source) front taken xs old new = new ≡ append_known old (text xs)
+Replied mode (Some Memory) front taken xs old new = new ≡ append_known old (text xs)
+Replied mode (Some TooLong) front taken xs old new = new ≡ append_known old (text xs)
+Replied mode (Some (Worn which)) front taken xs old new = new ≡ append_known old (text xs)
+Replied mode (Some Sink) front taken xs old new =
+    IsCutAfter mode front xs old new ⊎ IsKeptBack mode taken xs old new
 
 -- ---- what an end tells of the state
 
 -- what is told of the state before a fault's line: damage never comes, and a counter is worn by a
 -- next one of these lines
-abbrev pub Tells : Option Fault → State → List LineMeaning → List LineMeaning → Type 0
+abbrev pub Tells : Option Fault → State → List Spoken → List Spoken → Type 0
 Tells None s done lines = ⊤
 Tells (Some Device) s done lines = ⊤
 Tells (Some (Damaged block)) s done lines = ⊥
@@ -262,19 +284,19 @@ no_acks stopped = 0
 
 -- the state after the lines of a session, by those of what was taken and of the script; `last`
 -- holds then, by whether a `stop` is among them
-pub record EndsIn (end : Option Fault) (xs : List Exchange) (taken : List ℕ) (script : Known)
-    (last : Bool → State → Type 0) (s : State) : Type 0 where
-  pub told : Tells end s (executed xs) (lines_to_run taken)
-  pub told_script : IfSome script (λ bytes. Tells end s (executed xs) (lines_to_run bytes))
+pub record EndsIn (mode : Mode) (end : Option Fault) (xs : List Exchange) (taken : List ℕ)
+    (script : Known) (last : Bool → State → Type 0) (s : State) : Type 0 where
+  pub told : Tells end s (executed xs) (lines_to_run mode taken)
+  pub told_script : IfSome script (λ bytes. Tells end s (executed xs) (lines_to_run mode bytes))
   pub reached : Ends end s (last (has_stop xs))
 
 -- a session with a script, of which `script` is left of the source before and `rest` after, and how
 -- it was asked for: its lines with their replies, among the lines that were taken and those of the
 -- script, and an acknowledgement for each that makes all durable, with this many more at the end, by
 -- whether a `stop` is among them; from each state at which it may begin they have one transcript
-pub record Session (end : Option Fault) (first : State → Type 0) (last : Bool → State → Type 0)
-    (more : Bool → ℕ) (script rest : Known) (before now : Option Takes) (old new : Output)
-    : Type 0 where
+pub record Session (mode : Mode) (end : Option Fault) (first : State → Type 0)
+    (last : Bool → State → Type 0) (more : Bool → ℕ) (script rest : Known)
+    (before now : Option Takes) (old new : Output) : Type 0 where
   pub exchanges : List Exchange
   pub answered : AllByRecursion IsAnswered exchanges
   pub front : List ℕ
@@ -283,21 +305,22 @@ pub record Session (end : Option Fault) (first : State → Type 0) (last : Bool 
   pub taken_is : taken ≡ front ++ final
   pub script_is : script ≡ prepend_known taken rest
   pub took : Took front final before now
-  pub begins : BeginsWith front exchanges
-  pub among_taken : Among end taken exchanges
-  pub among_script : IfSome script (λ bytes. Among end bytes exchanges)
-  pub taken_at : TakenAt end taken exchanges
+  pub begins : BeginsWith mode front exchanges
+  pub among_taken : Among mode end taken exchanges
+  pub among_script : IfSome script (λ bytes. Among mode end bytes exchanges)
+  pub taken_at : TakenAt mode end taken exchanges
   pub read_out : ReadOut end exchanges final rest
-  pub replied : Replied end front taken exchanges old.written new.written
+  pub replied : Replied mode end front taken exchanges old.written new.written
   pub acked :
       HasAcked (durable (executed exchanges) + more (has_stop exchanges)) old.acks new.acks
   pub runs : (s : State) → first s
-      → HasTranscript s exchanges (EndsIn end exchanges taken script last)
+      → HasTranscript s exchanges (EndsIn mode end exchanges taken script last)
 
 -- a session before all is made durable at its end; how it goes on tells whether a `stop` was
 -- executed
-pub record RunsPieces (result : Result (ControlFlow (Unit {0}) (Unit {0})) Fault)
+pub record RunsPieces (mode : Mode) (result : Result (ControlFlow (Unit {0}) (Unit {0})) Fault)
     (first last : State → Type 0) (script rest : Known) (before now : Option Takes)
     (old new : Output) : Type 0 where
-  pub session : Session (end_of result) first (λ _. last) no_acks script rest before now old new
+  pub session :
+      Session mode (end_of result) first (λ _. last) no_acks script rest before now old new
   pub flow : IfOk result (λ flow. breaks flow ≡ has_stop session.exchanges)

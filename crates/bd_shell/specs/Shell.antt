@@ -7,16 +7,19 @@ use Rattle.std.specs.declared.option.Option.TheVariants.{Some}
 use Rattle.std.specs.declared.result.Result.{Result}
 use Rattle.std.specs.declared.result.Result.TheVariants.{Ok, Err}
 use Rattle.bd_io.specs.Written.{WrotePart}
-use Rattle.bd_message.specs.declared.fault.Counter.{Counter}
 use Rattle.bd_model.specs.Tree.{Tree}
 use Rattle.bd_represent.specs.Represents.{Represents}
 use Rattle.bd_device.specs.Blocks.{Image}
 use Rattle.bd_device.specs.declared.device.Device.{Ghosts}
 use Rattle.bd_image.specs.ImageTree.{ImageStandsFor}
-use Rattle.bd_script.specs.Lines.{LineMeaning, HasNoNewline, line_of, held, open_line, is_empty, is_stop, up_to_stop}
-use Rattle.bd_script.specs.Replies.{line_reply_text, line_reply_line}
+use Rattle.bd_script.specs.Lines.{LineMeaning, HasNoNewline, held, open_line, is_empty}
 use Rattle.bd_script.specs.declared.replies.LineReply.{LineReply}
 use Rattle.bd_script.specs.declared.replies.LineReply.TheVariants as reply
+use Rattle.bd_sessions.specs.Handles.{no_handles}
+use Rattle.bd_sessions.specs.Replies.{said_line, said_text}
+use Rattle.bd_sessions.specs.Spoken.{Spoken, Mode, is_stop, spoken, up_to_stop}
+use Rattle.bd_sessions.specs.Telling.{FollowsSpoken}
+use Rattle.bd_sessions.specs.declared.replies.TurnReply.{TurnReply}
 use Rattle.bd_view.specs.Views.{View, keys_of}
 use Rattle.bd_volume.specs.declared.fault.Fault.{Fault as VolumeFault}
 use Rattle.bd_volume.specs.declared.fault.Fault.TheVariants as volume
@@ -31,8 +34,8 @@ use Rattle.bd_shell.specs.declared.outcome.Ack.{Ack}
 use Rattle.bd_shell.specs.declared.acknowledged.Acknowledged.{Acknowledged}
 use Rattle.bd_shell.specs.declared.shell.Shell.{Shell}
 use Rattle.bd_shell.specs.Crashes.{IsSafeSince}
-use Rattle.bd_shell.specs.Transcript.{Known, Output, State, with_view, ack, Exchange, IsAnswered, HasAcked, MayGet, Follows, HasTranscript, durable, text, executed, meanings, IsFront}
-use Rattle.bd_shell.specs.Session.{HasNext, WornBy, LeavesBy, Ends, Tells, IsCutShort}
+use Rattle.bd_shell.specs.Transcript.{Known, Output, State, with_view, ack, Exchange, IsAnswered, HasAcked, MaySay, Follows, HasTranscript, doing, durable, text, executed, meanings, IsFront}
+use Rattle.bd_shell.specs.Session.{HasNext, IsLeftBy, IsLeftIn, WornBy, WornIn, LeavesBy, Ends, Tells, IsCutShort}
 
 -- a volume stands for a state, whose view is the volume's own
 pub record VolumeAt {D : Type 0} (g : Ghosts D) (v : Volume D) (s : State) : Type 0 where
@@ -64,9 +67,15 @@ pub record KeptAt {D : Type 0} (g : Ghosts D) (first : D) (since : ℕ) (v : Ack
   pub at : VolumeAt g v.volume s
   pub safe : IsSafeSince g first since (device_below v) (acks_below v) s
 
+-- it stands for a state in which no handle is open, since its lines come from no client
+pub record TurnsAt {D : Type 0} (g : Ghosts D) (first : D) (since : ℕ) (v : Acknowledged D)
+    (s : State) : Type 0 where
+  pub volume : KeptAt g first since v s
+  pub handles : s.kept ≡ no_handles
+
 -- so does a shell's
 abbrev pub ShellAt : {D : Type 0} → Ghosts D → D → ℕ → Shell D → State → Type 0
-ShellAt g first since shell s = KeptAt g first since shell.kept s
+ShellAt g first since shell s = TurnsAt g first since shell.kept s
 
 -- what is seen of a shell's volume
 abbrev pub view_in : {D : Type 0} → Ghosts D → Shell D → View
@@ -144,8 +153,8 @@ is_stopped (reply.Full free need) = false
 is_stopped reply.Stopped = true
 
 -- the last line of a script, where it isn't empty
-abbrev pub last_lines : List ℕ → List LineMeaning
-last_lines line = if is_empty line then [] else line_of line ∷ []
+abbrev pub last_lines : Mode → List ℕ → List Spoken
+last_lines mode line = if is_empty line then [] else spoken mode line ∷ []
 
 -- what is held of a line that a script has begun: no newline, and no more bytes than tell what it
 -- means
@@ -169,15 +178,24 @@ pub record Replies (s : State) (line : LineMeaning) (said : LineReply) (at : Sta
   pub represents : Represents (keys_of after.view) after.tree
   pub reached : at after
 
--- a line was executed and its reply written, and it was acknowledged where it makes all durable
-pub record ExecutesOne (first last : State → Type 0) (line : LineMeaning) (old new : Output)
+-- so it does of a line with its client
+pub record RepliesTo (s : State) (line : Spoken) (said : TurnReply) (at : State → Type 0)
     : Type 0 where
-  pub said : LineReply
-  pub answer : MayGet line said
-  pub one_line : HasNoNewline (line_reply_text said)
-  pub written : new.written ≡ append_known old.written (line_reply_line said)
+  pub after : State
+  pub follows : FollowsSpoken doing s line said after
+  pub later : s.calls ≤ after.calls
+  pub represents : Represents (keys_of after.view) after.tree
+  pub reached : at after
+
+-- a line was executed and its reply written, and it was acknowledged where it makes all durable
+pub record ExecutesOne (first last : State → Type 0) (line : Spoken) (old new : Output)
+    : Type 0 where
+  pub said : TurnReply
+  pub answer : MaySay line said
+  pub one_line : HasNoNewline (said_text line.client said)
+  pub written : new.written ≡ append_known old.written (said_line line.client said)
   pub acked : HasAcked (durable (line ∷ [])) old.acks new.acks
-  pub replies : (s : State) → first s → Replies s line said last
+  pub replies : (s : State) → first s → RepliesTo s line said last
 
 -- ---- faults, with what each leaves; the causes of all stand in one table
 
@@ -200,24 +218,33 @@ IsOutcome volume.NoMemory outcome = outcome ≡ Err Memory
 IsOutcome (volume.Full free need) outcome = outcome ≡ Ok (reply.Full free need)
 IsOutcome (volume.Stopped call) outcome = ⊥
 
--- the line wore the counter, and `at` holds of what is left, after this many calls of the device
-pub record Wore (which : Counter) (s : State) (line : LineMeaning) (at : State → Type 0)
-    : Type 0 where
+-- a counter was worn, and `at` holds of what is left, after this many calls of the device
+pub record Wore (worn_by : View → Type 0) (s : State) (at : State → Type 0) : Type 0 where
   pub left : View
-  pub worn : WornBy which s line left
+  pub worn : worn_by left
   pub calls : ℕ
   pub later : s.calls ≤ calls
   pub reached : at (with_view s left calls)
 
 -- what a line's fault before its reply leaves of a state; damage comes from none
 abbrev pub LineFails : Fault → State → LineMeaning → (State → Type 0) → Type 0
-LineFails Device s line at = LeavesBy line s at
+LineFails Device s line at = LeavesBy (IsLeftBy line s) s at
 LineFails (Damaged block) s line at = ⊥
 LineFails Source s line at = ⊥
-LineFails Memory s line at = LeavesBy line s at
+LineFails Memory s line at = LeavesBy (IsLeftBy line s) s at
 LineFails TooLong s line at = ⊥
-LineFails (Worn which) s line at = Wore which s line at
+LineFails (Worn which) s line at = Wore (WornBy which s line) s at
 LineFails Sink s line at = ⊥
+
+-- so it does of a line with its client
+abbrev pub TurnFails : Fault → State → Spoken → (State → Type 0) → Type 0
+TurnFails Device s line at = LeavesBy (IsLeftIn line s) s at
+TurnFails (Damaged block) s line at = ⊥
+TurnFails Source s line at = ⊥
+TurnFails Memory s line at = LeavesBy (IsLeftIn line s) s at
+TurnFails TooLong s line at = ⊥
+TurnFails (Worn which) s line at = Wore (WornIn which s line) s at
+TurnFails Sink s line at = ⊥
 
 -- the faults that a line has before its reply
 abbrev pub IsLineFault : Fault → Type 0
@@ -230,24 +257,24 @@ IsLineFault (Worn which) = ⊤
 IsLineFault Sink = ⊥
 
 -- a fault came before a line's reply, and nothing was written or acknowledged
-pub record FailsBefore (e : Fault) (first last : State → Type 0) (line : LineMeaning)
+pub record FailsBefore (e : Fault) (first last : State → Type 0) (line : Spoken)
     (old new : Output) : Type 0 where
   pub unwritten : new.written ≡ old.written
   pub unacked : new.acks ≡ old.acks
-  pub leaves : (s : State) → first s → LineFails e s line last
+  pub leaves : (s : State) → first s → TurnFails e s line last
 
 -- an executed line of whose reply only a part was written
-pub record IsCut (first last : State → Type 0) (line : LineMeaning) (old new : Output)
+pub record IsCut (first last : State → Type 0) (line : Spoken) (old new : Output)
     : Type 0 where
-  pub said : LineReply
-  pub answer : MayGet line said
-  pub one_line : HasNoNewline (line_reply_text said)
-  pub part : WrotePart (line_reply_line said) old.written new.written
+  pub said : TurnReply
+  pub answer : MaySay line said
+  pub one_line : HasNoNewline (said_text line.client said)
+  pub part : WrotePart (said_line line.client said) old.written new.written
   pub acked : HasAcked (durable (line ∷ [])) old.acks new.acks
-  pub replies : (s : State) → first s → Replies s line said last
+  pub replies : (s : State) → first s → RepliesTo s line said last
 
 -- a fault of a line: before its reply, or within it
-abbrev pub RunFails : Fault → (State → Type 0) → (State → Type 0) → LineMeaning → Output → Output
+abbrev pub RunFails : Fault → (State → Type 0) → (State → Type 0) → Spoken → Output → Output
     → Type 0
 RunFails Device first last line old new = FailsBefore Device first last line old new
 RunFails (Damaged block) first last line old new =
@@ -260,28 +287,28 @@ RunFails Sink first last line old new = IsCut first last line old new
 
 -- some complete lines were executed, of what was begun and of a front of a piece, none of them a
 -- `stop`, and bytes are left of the piece
-pub record HasMore (begun piece : List ℕ) (xs : List Exchange) : Type 0 where
+pub record HasMore (mode : Mode) (begun piece : List ℕ) (xs : List Exchange) : Type 0 where
   pub front : List ℕ
   pub rest : List ℕ
   pub piece_is : piece ≡ front ++ rest
-  pub lines_are : executed xs ≡ meanings (begun ++ front)
-  pub no_stop : list_any is_stop (meanings (begun ++ front)) ≡ false
+  pub lines_are : executed xs ≡ meanings mode (begun ++ front)
+  pub no_stop : list_any is_stop (meanings mode (begun ++ front)) ≡ false
   pub some : is_empty rest ≡ false
 
 -- the lines that a piece completes, up to a `stop`
-abbrev pub completed : List ℕ → List ℕ → List LineMeaning
-completed begun piece = up_to_stop (meanings (begun ++ piece))
+abbrev pub completed : Mode → List ℕ → List ℕ → List Spoken
+completed mode begun piece = up_to_stop (meanings mode (begun ++ piece))
 
 -- how the lines executed before a fault stand to those that a piece completes
-abbrev pub Halts : Fault → List ℕ → List ℕ → List Exchange → Type 0
-Halts Device begun piece xs = HasMore begun piece xs
-Halts (Damaged block) begun piece xs = HasMore begun piece xs
-Halts Source begun piece xs = ⊥
-Halts Memory begun piece xs = HasMore begun piece xs
-Halts TooLong begun piece xs = ⊥
-Halts (Worn which) begun piece xs =
-    (next : LineMeaning) × HasNext next (executed xs) (completed begun piece)
-Halts Sink begun piece xs = IsFront (executed xs) (completed begun piece)
+abbrev pub Halts : Mode → Fault → List ℕ → List ℕ → List Exchange → Type 0
+Halts mode Device begun piece xs = HasMore mode begun piece xs
+Halts mode (Damaged block) begun piece xs = HasMore mode begun piece xs
+Halts mode Source begun piece xs = ⊥
+Halts mode Memory begun piece xs = HasMore mode begun piece xs
+Halts mode TooLong begun piece xs = ⊥
+Halts mode (Worn which) begun piece xs =
+    (next : Spoken) × HasNext next (executed xs) (completed mode begun piece)
+Halts mode Sink begun piece xs = IsFront (executed xs) (completed mode begun piece)
 
 -- what was written of the replies before a fault
 abbrev pub RepliesUpTo : Fault → List Exchange → Known → Known → Type 0
@@ -294,18 +321,18 @@ RepliesUpTo (Worn which) xs old new = new ≡ append_known old (text xs)
 RepliesUpTo Sink xs old new = IsCutShort xs old new
 
 -- the state after the lines of a piece before a fault
-pub record HaltsIn (e : Fault) (begun piece : List ℕ) (xs : List Exchange)
+pub record HaltsIn (mode : Mode) (e : Fault) (begun piece : List ℕ) (xs : List Exchange)
     (at : State → Type 0) (s : State) : Type 0 where
-  pub told : Tells (Some e) s (executed xs) (completed begun piece)
+  pub told : Tells (Some e) s (executed xs) (completed mode begun piece)
   pub reached : Ends (Some e) s at
 
 -- a fault came while the lines that a piece completes were executed
-pub record BreaksOff (e : Fault) (first last : State → Type 0) (begun piece : List ℕ)
-    (old new : Output) : Type 0 where
+pub record BreaksOff (mode : Mode) (e : Fault) (first last : State → Type 0)
+    (begun piece : List ℕ) (old new : Output) : Type 0 where
   pub exchanges : List Exchange
   pub answered : AllByRecursion IsAnswered exchanges
-  pub halts : Halts e begun piece exchanges
+  pub halts : Halts mode e begun piece exchanges
   pub replied : RepliesUpTo e exchanges old.written new.written
   pub acked : HasAcked (durable (executed exchanges)) old.acks new.acks
   pub runs : (s : State) → first s
-      → HasTranscript s exchanges (HaltsIn e begun piece exchanges last)
+      → HasTranscript s exchanges (HaltsIn mode e begun piece exchanges last)

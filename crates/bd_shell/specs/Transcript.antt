@@ -1,7 +1,8 @@
 -- What a run does, line by line.
 use Rattle.std.specs.Prelude.{◌≡◌, ℕ, ◌+◌, ◌*◌, ◌<◌, ◌≤◌, Bool, true, false, ◌&&◌, List, [], ◌∷◌, ◌++◌, length, map, if◌then◌else◌, MatchBool, IsNone, ⊤}
-use Rattle.std.specs.List.{flat_map}
+use Rattle.std.specs.List.{flat_map, AllByRecursion}
 use Rattle.std.specs.declared.option.Option.{Option}
+use Rattle.std.specs.declared.option.Option.TheVariants.{None, Some}
 use Rattle.std.specs.declared.result.Result.TheVariants.{Ok, Err}
 use Rattle.bd_command.specs.Command.{writes, is_done, accepted, IsCommand, IsReply}
 use Rattle.bd_command.specs.declared.Command.{Command}
@@ -11,11 +12,24 @@ use Rattle.bd_graft.specs.declared.grafting.Walk.{Walk as WalkTaken}
 use Rattle.bd_represent.specs.Represents.{Represents}
 use Rattle.bd_model.specs.Tree.{Tree, IsTree}
 use Rattle.bd_model.specs.Step.{step, refusal_of}
-use Rattle.bd_script.specs.Lines.{LineMeaning, HasNoNewline, line_of, lines_of, whole_lines, up_to_stop}
-use Rattle.bd_script.specs.Replies.{line_reply_text, line_reply_line}
+use Rattle.bd_script.specs.Lines.{LineMeaning, HasNoNewline, lines_of, whole_lines}
+use Rattle.bd_script.specs.declared.line.Line.{Line}
 use Rattle.bd_script.specs.declared.line.Line.TheVariants.{Run, Walk, Df, Sync, Checkpoint, Reclaim, Stop}
 use Rattle.bd_script.specs.declared.replies.LineReply.{LineReply}
 use Rattle.bd_script.specs.declared.replies.LineReply.TheVariants as reply
+use Rattle.bd_script.specs.declared.denial.Denial.{Denial}
+use Rattle.bd_script.specs.declared.denial.Denial.TheVariants.{NoHandle, Gone, HandlesFull, LongPath, BadStream}
+use Rattle.bd_sessions.specs.Handles.{Kept, Table, handle_limit, no_handles, table_in}
+use Rattle.bd_sessions.specs.Replies.{said_line, said_text}
+use Rattle.bd_sessions.specs.Sessions.{asked}
+use Rattle.bd_sessions.specs.Spoken.{Spoken, Mode, client_or_none, spoken, up_to_stop}
+use Rattle.bd_sessions.specs.Telling.{Doing, FollowsSpoken}
+use Rattle.bd_sessions.specs.Turns.{TurnMeaning, plain}
+use Rattle.bd_sessions.specs.declared.asking.Ask.{Ask}
+use Rattle.bd_sessions.specs.declared.asking.Ask.TheVariants as ask
+use Rattle.bd_sessions.specs.declared.turn.Turn.TheVariants as turn
+use Rattle.bd_sessions.specs.declared.replies.TurnReply.{TurnReply}
+use Rattle.bd_sessions.specs.declared.replies.TurnReply.TheVariants as turn_reply
 use Rattle.bd_view.specs.Views.{View, keys_of, free_slots}
 use Rattle.bd_view.specs.Moves.{IsAccepted, Saves, synced, IsCommandFull, IsCheckpointFull}
 use Rattle.bd_view.specs.Reclaiming.{IsReclaim, IsReclaimFull}
@@ -27,10 +41,10 @@ Known = Option (List ℕ)
 
 -- ---- what is executed, whatever the image is
 
--- a line that was executed, and its reply
+-- a line that was executed, with the client that asked, and its reply
 pub record Exchange : Type 0 where
-  pub line : LineMeaning
-  pub said : LineReply
+  pub line : Spoken
+  pub said : TurnReply
 
 -- the replies that a command may get, and which can be written
 abbrev pub IsCommandReply : LineReply → Type 0
@@ -71,9 +85,59 @@ MayGet (Ok Reclaim) said = IsDoneOrFull said
 MayGet (Ok Stop) said = said ≡ reply.Stopped
 MayGet (Err refusal) said = said ≡ reply.Unread refusal
 
+-- the reply is one to a command, and this holds of it
+abbrev pub IsLineOf : (LineReply → Type 0) → TurnReply → Type 0
+IsLineOf may (turn_reply.Line r) = may r
+IsLineOf may (turn_reply.Opened number) = ⊥
+IsLineOf may turn_reply.Closed = ⊥
+IsLineOf may (turn_reply.No denial) = ⊥
+
+-- the replies that `open` may get: the tree's, a number, or that all are taken
+abbrev pub IsOpenReply : TurnReply → Type 0
+IsOpenReply (turn_reply.Line r) = IsCommandReply r
+IsOpenReply (turn_reply.Opened number) = number < handle_limit
+IsOpenReply turn_reply.Closed = ⊥
+IsOpenReply (turn_reply.No denial) = denial ≡ HandlesFull
+
+-- why a command for a handle may be denied
+abbrev pub IsHandleDenial : Denial → Type 0
+IsHandleDenial NoHandle = ⊤
+IsHandleDenial Gone = ⊤
+IsHandleDenial HandlesFull = ⊥
+IsHandleDenial LongPath = ⊤
+IsHandleDenial BadStream = ⊥
+
+-- the replies that a command for a handle may get
+abbrev pub IsHandleReply : TurnReply → Type 0
+IsHandleReply (turn_reply.Line r) = IsCommandReply r
+IsHandleReply (turn_reply.Opened number) = ⊥
+IsHandleReply turn_reply.Closed = ⊥
+IsHandleReply (turn_reply.No denial) = IsHandleDenial denial
+
+-- the replies that `close` may get
+abbrev pub IsCloseReply : TurnReply → Type 0
+IsCloseReply (turn_reply.Line r) = ⊥
+IsCloseReply (turn_reply.Opened number) = ⊥
+IsCloseReply turn_reply.Closed = ⊤
+IsCloseReply (turn_reply.No denial) = denial ≡ NoHandle
+
+-- the replies that a turn may get on any device
+abbrev pub MayGetTurn : TurnMeaning → TurnReply → Type 0
+MayGetTurn (Ok (turn.Plain line)) said = IsLineOf (MayGet (Ok line)) said
+MayGetTurn (Ok (turn.Open path)) said = IsOpenReply said
+MayGetTurn (Ok (turn.Read handle off len)) said = IsHandleReply said
+MayGetTurn (Ok (turn.Write handle off bytes)) said = IsHandleReply said
+MayGetTurn (Ok (turn.Stat handle)) said = IsHandleReply said
+MayGetTurn (Ok (turn.Close handle)) said = IsCloseReply said
+MayGetTurn (Err refusal) said = IsLineOf (MayGet (Err refusal)) said
+
+-- so may a line, whoever asks
+abbrev pub MaySay : Spoken → TurnReply → Type 0
+MaySay line said = MayGetTurn line.turn said
+
 -- a reply that its line may get, and which is one line
 abbrev pub IsAnswered : Exchange → Type 0
-IsAnswered x = MayGet x.line x.said × HasNoNewline (line_reply_text x.said)
+IsAnswered x = MaySay x.line x.said × HasNoNewline (said_text x.line.client x.said)
 
 -- the lines that make all durable, each of which is acknowledged
 abbrev pub is_durable : LineMeaning → Bool
@@ -86,10 +150,24 @@ is_durable (Ok Reclaim) = false
 is_durable (Ok Stop) = true
 is_durable (Err refusal) = false
 
--- how many of these lines make all durable
-abbrev pub durable : List LineMeaning → ℕ
+-- how many acknowledgements a line asks for
+abbrev pub acks_due : LineMeaning → ℕ
+acks_due line = if is_durable line then 1 else 0
+
+-- what a test of a script's lines says of a turn: only such a line can pass it
+abbrev pub passes : (LineMeaning → Bool) → TurnMeaning → Bool
+passes test (Ok (turn.Plain line)) = test (Ok line)
+passes test (Ok (turn.Open path)) = false
+passes test (Ok (turn.Read handle off len)) = false
+passes test (Ok (turn.Write handle off bytes)) = false
+passes test (Ok (turn.Stat handle)) = false
+passes test (Ok (turn.Close handle)) = false
+passes test (Err refusal) = false
+
+-- how many of these lines make all durable, whoever asks for it
+abbrev pub durable : List Spoken → ℕ
 durable [] = 0
-durable (l ∷ ls) = (if is_durable l then 1 else 0) + durable ls
+durable (l ∷ ls) = (if passes is_durable l.turn then 1 else 0) + durable ls
 
 -- this many acknowledgements came after others
 pub record HasAcked (count : ℕ) (old new : List Ack) : Type 0 where
@@ -112,10 +190,10 @@ output written acks = record { written = written; acks = acks }
 
 -- what is written of the replies
 abbrev pub text : List Exchange → List ℕ
-text xs = flat_map (λ x. line_reply_line x.said) xs
+text xs = flat_map (λ x. said_line x.line.client x.said) xs
 
 -- the lines that were executed
-abbrev pub executed : List Exchange → List LineMeaning
+abbrev pub executed : List Exchange → List Spoken
 executed xs = map (λ x. x.line) xs
 
 -- ---- where a run stands
@@ -131,8 +209,9 @@ point t n = record { tree = t; count = n }
 -- the tree, how many commands were accepted, and the view: the nodes that keep the tree, with how
 -- the last clone or rename went, and the numbers of slots and of the log. Also all points that were
 -- passed: that of the beginning, and one after each accepted command; how many calls of the device
--- there were; and what was acknowledged, in order: one acknowledgement at each line that made all
--- durable
+-- there were; what was acknowledged, in order: one acknowledgement at each line that made all
+-- durable; and of each open handle the path at which it was opened, with the commands that were
+-- accepted since
 pub record State : Type 0 where
   pub tree : Tree
   pub count : ℕ
@@ -140,8 +219,10 @@ pub record State : Type 0 where
   pub passed : List Point
   pub calls : ℕ
   pub acks : List Ack
+  pub kept : Kept
 
--- the state of a tree, a count and a view, at the beginning, after this many calls of the device
+-- the state of a tree, a count and a view, at the beginning, after this many calls of the device: no
+-- handle is open
 abbrev pub state_at : Tree → ℕ → View → ℕ → State
 state_at t n view calls = record {
   tree = t;
@@ -150,6 +231,7 @@ state_at t n view calls = record {
   passed = point t n ∷ [];
   calls = calls;
   acks = [];
+  kept = no_handles;
 }
 
 -- the state's own point
@@ -182,6 +264,7 @@ state_of_step s c view calls = record {
       (point (step s.tree c).0 (s.count + accepted c (step s.tree c).1));
   calls = calls;
   acks = s.acks;
+  kept = s.kept;
 }
 
 -- ---- what a line does
@@ -255,18 +338,48 @@ Follows s (Ok Reclaim) said after = Serves IsReclaim FillsReclaim s said after
 Follows s (Ok Stop) said after = (said ≡ reply.Stopped) × (after ≡ synced_state s after.calls)
 Follows s (Err refusal) said after = (said ≡ reply.Unread refusal) × (after ≡ s)
 
+-- ---- what a turn does
+
+-- the state with other handles
+abbrev pub keeping : Kept → State → State
+keeping kept s = record s { kept = kept }
+
+-- what the turns of a client stand on: commands and the other lines of a script, and the handles
+abbrev pub doing : Doing State
+doing = record {
+  answers = Answers;
+  serves = λ s line. Follows s (Ok line);
+  kept = λ s. s.kept;
+  keeping = keeping;
+}
+
+-- the line of a script that is executed on the volume for what is asked, if one is
+abbrev pub line_for : Ask → Option Line
+line_for (ask.Do command) = Some (Run command)
+line_for (ask.Service line) = Some line
+line_for ask.Closed = None
+line_for (ask.No denial) = None
+
+abbrev pub line_for_turn : Table → TurnMeaning → Option Line
+line_for_turn table (Ok t) = line_for (asked table t)
+line_for_turn table (Err refusal) = None
+
+-- the same of a line, by its client's handles: a command for a handle is that at the handle's path
+abbrev pub line_in : State → Spoken → Option Line
+line_in s line = line_for_turn (table_in s.kept (client_or_none line.client)) line.turn
+
 -- ---- transcripts
 
--- an executed line, its reply, and the state after it
+-- an executed line with its client, its reply, and the state after it
 pub record Entry : Type 0 where
-  pub line : LineMeaning
-  pub said : LineReply
+  pub line : Spoken
+  pub said : TurnReply
   pub state : State
 
 -- the entry follows from the state before it, no fewer calls of the device were made, and the nodes
 -- of its view represent its tree
 pub record Continues (s : State) (e : Entry) : Type 0 where
-  pub follows : Follows s e.line e.said e.state
+  pub follows : FollowsSpoken doing s e.line e.said e.state
   pub later : s.calls ≤ e.state.calls
   pub represents : Represents (keys_of e.state.view) e.state.tree
 
@@ -297,35 +410,66 @@ pub record HasTranscript (s : State) (xs : List Exchange) (at : State → Type 0
 
 -- ---- the lines of a script
 
+-- a line of a script, as that of no client
+abbrev pub alone : LineMeaning → Spoken
+alone line = record { client = None; turn = plain line }
+
 -- what the lines that are complete, each with its newline, mean
-abbrev pub meanings : List ℕ → List LineMeaning
-meanings bytes = map line_of (whole_lines bytes)
+abbrev pub meanings : Mode → List ℕ → List Spoken
+meanings mode bytes = map (spoken mode) (whole_lines bytes)
 
 -- the lines of a script, up to the first `stop`: nothing follows it
-abbrev pub lines_to_run : List ℕ → List LineMeaning
-lines_to_run script = up_to_stop (map line_of (lines_of script))
+abbrev pub lines_to_run : Mode → List ℕ → List Spoken
+lines_to_run mode script = up_to_stop (map (spoken mode) (lines_of script))
 
 -- xs stands at the front of ys
 abbrev pub IsFront : {A : Type 0} → List A → List A → Type 0
 IsFront {A} xs ys = (rest : List A) × (ys ≡ xs ++ rest)
 
+-- ---- lines of no client
+
+-- the entry's line comes from no client, and is a line of a script
+abbrev pub IsAlone : Entry → Type 0
+IsAlone e = (line : LineMeaning) × (e.line ≡ alone line)
+
+abbrev pub AreAlone : List Entry → Type 0
+AreAlone es = AllByRecursion IsAlone es
+
+-- its reply is one to such a line, and with its state follows as that of the line does
+pub record FollowsAlone (s : State) (e : Entry) : Type 0 where
+  pub line : LineMeaning
+  pub said : LineReply
+  pub line_is : e.line ≡ alone line
+  pub said_is : e.said ≡ turn_reply.Line said
+  pub follows : Follows s line said e.state
+
+-- so do all, each from the state before it
+abbrev pub FollowAlone : State → List Entry → Type 0
+FollowAlone s [] = ⊤
+FollowAlone s (e ∷ es) = FollowsAlone s e × FollowAlone e.state es
+
 -- ---- what holds of each entry
 
 -- a command that was executed keeps the limits of commands
-abbrev pub IsLimited : LineMeaning → Type 0
-IsLimited (Ok (Run c)) = IsCommand c
-IsLimited (Ok Walk) = ⊤
-IsLimited (Ok Df) = ⊤
-IsLimited (Ok Sync) = ⊤
-IsLimited (Ok Checkpoint) = ⊤
-IsLimited (Ok Reclaim) = ⊤
-IsLimited (Ok Stop) = ⊤
-IsLimited (Err refusal) = ⊤
+abbrev pub IsLimited : Option Line → Type 0
+IsLimited None = ⊤
+IsLimited (Some (Run c)) = IsCommand c
+IsLimited (Some Walk) = ⊤
+IsLimited (Some Df) = ⊤
+IsLimited (Some Sync) = ⊤
+IsLimited (Some Checkpoint) = ⊤
+IsLimited (Some Reclaim) = ⊤
+IsLimited (Some Stop) = ⊤
 
--- an entry's state has a tree, and its line keeps the limits
-pub record CanBe (e : Entry) : Type 0 where
+-- an entry's state has a tree, and what its line asks for in the state before keeps the limits
+pub record CanBe (s : State) (e : Entry) : Type 0 where
   pub tree : IsTree e.state.tree
-  pub limits : IsLimited e.line
+  pub limits : IsLimited (line_in s e.line)
+
+-- so do all, each from the state before it
+abbrev pub AllCanBe : State → List Entry → Type 0
+AllCanBe s [] = ⊤
+AllCanBe s (e ∷ es) = CanBe s e × AllCanBe e.state es
 
 -- ---- what each clone costs
 
@@ -350,19 +494,26 @@ is_made c (reply.Full free need) = false
 is_made c reply.Stopped = false
 
 -- the line is a clone or a rename, and was accepted
-abbrev pub is_grafted : LineMeaning → LineReply → Bool
-is_grafted (Ok (Run c)) said = is_made c said
-is_grafted (Ok Walk) said = false
-is_grafted (Ok Df) said = false
-is_grafted (Ok Sync) said = false
-is_grafted (Ok Checkpoint) said = false
-is_grafted (Ok Reclaim) said = false
-is_grafted (Ok Stop) said = false
-is_grafted (Err refusal) said = false
+abbrev pub is_grafted_line : LineMeaning → LineReply → Bool
+is_grafted_line (Ok (Run c)) said = is_made c said
+is_grafted_line (Ok Walk) said = false
+is_grafted_line (Ok Df) said = false
+is_grafted_line (Ok Sync) said = false
+is_grafted_line (Ok Checkpoint) said = false
+is_grafted_line (Ok Reclaim) said = false
+is_grafted_line (Ok Stop) said = false
+is_grafted_line (Err refusal) said = false
+
+-- so is a line with its client: no command for a handle is one
+abbrev pub is_grafted : Spoken → TurnReply → Bool
+is_grafted line (turn_reply.Line r) = passes (λ l. is_grafted_line l r) line.turn
+is_grafted line (turn_reply.Opened number) = false
+is_grafted line turn_reply.Closed = false
+is_grafted line (turn_reply.No denial) = false
 
 -- an accepted clone or rename visited at most five nodes for each of the height, and two more; every
 -- other line keeps the walk
-abbrev pub IsCheap : LineMeaning → LineReply → WalkTaken → WalkTaken → Type 0
+abbrev pub IsCheap : Spoken → TurnReply → WalkTaken → WalkTaken → Type 0
 IsCheap line said old new =
     MatchBool (is_grafted line said) (new.visits ≤ 5 * new.height + 2) (new ≡ old)
 

@@ -4,6 +4,7 @@ ghost use Rattle.bd_limits.specs.Limits.{script_limit};
 ghost use Rattle.bd_device.specs.Device.{Stays};
 ghost use Rattle.bd_io.specs.Cause.{HasCause};
 ghost use Rattle.bd_io.specs.Takes.{takes_after};
+ghost use Rattle.bd_sessions.specs.Spoken.{Single};
 ghost use Rattle.bd_shell.specs.Fault.{IsCaused, faults, of_sink};
 ghost use Rattle.bd_shell.specs.Transcript.{output};
 ghost use Rattle.bd_shell.specs.Session.{ClosedAt, RunsPieces, Session, acks_at_end, end_of};
@@ -82,7 +83,7 @@ pub fn run_script<D: Device + Drop, S: Source, K: Sink>(
 ) -> Result<(), Fault>
     requires line { held_of shell.old ≡ [] }
     requires going { stop_in shell.old ≡ None }
-    ensures session { (first : D) (since : ℕ) → Session (end_of result)
+    ensures session { (first : D) (since : ℕ) → Session Single (end_of result)
         (ShellAt D.Device first since shell.old)
         (ClosedAt (end_of result) (ShellAt D.Device first since shell.new))
         (acks_at_end (end_of result)) (S.left src.old) (S.left src.new) (S.takes src.old)
@@ -116,7 +117,7 @@ fn run_pieces<D: Device + Drop, S: Source, K: Sink>(
 ) -> Result<ControlFlow<()>, Fault>
     requires line { held_of shell.old ≡ [] }
     requires going { stop_in shell.old ≡ None }
-    ensures session { (first : D) (since : ℕ) → RunsPieces result
+    ensures session { (first : D) (since : ℕ) → RunsPieces Single result
         (ShellAt D.Device first since shell.old) (ShellAt D.Device first since shell.new)
         (S.left src.old) (S.left src.new) (S.takes src.old) (S.takes src.new)
         (output (K.written sink.old) (acks_in shell.old))

@@ -1,4 +1,4 @@
-ghost use Rattle.std.specs.Prelude.{◌≡◌, ◌≢◌, ◌+◌, ◌≤◌, ◌⊎◌, ◌++◌, ℕ, [], ◌∷◌, MatchOption, length, false, None, Ok, IfOk, IfErr, IfSome, OnOk, OnErr};
+ghost use Rattle.std.specs.Prelude.{◌≡◌, ◌≢◌, ◌+◌, ◌≤◌, ◌⊎◌, ◌++◌, ℕ, [], MatchOption, length, false, None, Ok, IfOk, IfErr, IfSome, OnOk, OnErr};
 ghost use Rattle.std.specs.List.{list_any};
 ghost use Rattle.std.specs.Io.KnownBytes.{append_known};
 ghost use Rattle.bd_io.specs.Cause.{HasCause};
@@ -7,17 +7,18 @@ ghost use Rattle.bd_message.specs.declared.fault.Counter.{Counter};
 ghost use Rattle.bd_model.specs.Tree.{Tree};
 ghost use Rattle.bd_device.specs.Device.{Stays};
 ghost use Rattle.bd_image.specs.ImageTree.{ImageStandsFor};
-ghost use Rattle.bd_script.specs.Lines.{line_of, open_line, held, held_limit, is_empty, is_stop, IsLine, HasNoNewline};
+ghost use Rattle.bd_script.specs.Lines.{line_of, open_line, held, held_limit, is_empty, IsLine, HasNoNewline};
 ghost use Rattle.bd_script.specs.Replies.{line_reply_text, line_reply_line, IsLineReply};
+ghost use Rattle.bd_sessions.specs.Spoken.{Single, is_stop, spoken};
 ghost use Rattle.bd_engine.specs.Stored.{HasSaved};
 ghost use Rattle.bd_volume.specs.Faults.{IsStartCause};
 ghost use Rattle.bd_volume.specs.Starts.{OnlyStarts};
 ghost use Rattle.bd_volume.specs.Volume.{IsFirstView};
 ghost use Rattle.bd_volume.specs.Wears.{WearsReplaying};
 ghost use Rattle.bd_shell.specs.Fault.{IsCaused};
-ghost use Rattle.bd_shell.specs.Transcript.{State, state_at, synced_state, with_view, HasAcked, MayGet, durable, meanings, output};
+ghost use Rattle.bd_shell.specs.Transcript.{State, state_at, synced_state, with_view, HasAcked, MayGet, acks_due, meanings, output};
 ghost use Rattle.bd_shell.specs.Session.{Executes, Later, breaks};
-ghost use Rattle.bd_shell.specs.Shell.{KeptAt, ShellAt, Acknowledges, Replies, ExecutesOne, view_in, acks_below, acks_in, held_of, device_below, device_in, stop_below, stop_in, counts_of, CanStart, MayStart, FailsNoWrite, NamesBad, is_stopped, last_lines, completed, IsHeld, ComesNow, IsOutcome, CutsAt, IsLineFault, LineFails, RunFails, BreaksOff};
+ghost use Rattle.bd_shell.specs.Shell.{KeptAt, TurnsAt, ShellAt, Acknowledges, Replies, ExecutesOne, view_in, acks_below, acks_in, held_of, device_below, device_in, stop_below, stop_in, counts_of, CanStart, MayStart, FailsNoWrite, NamesBad, is_stopped, last_lines, completed, IsHeld, ComesNow, IsOutcome, CutsAt, IsLineFault, LineFails, RunFails, BreaksOff};
 
 use crate::acknowledged::Acknowledged;
 use crate::fault::Fault;
@@ -66,7 +67,7 @@ fn execute<D: Device + Drop>(kept: &mut Acknowledged<D>, line: &Line) -> Result<
     // Whatever the volume stands for.
     ensures answer { IfOk result (MayGet (Ok line.now)) }
     ensures acked { OnOk result
-        (HasAcked (durable (Ok line.now ∷ [])) (acks_below kept.old) (acks_below kept.new)) }
+        (HasAcked (acks_due (Ok line.now)) (acks_below kept.old) (acks_below kept.new)) }
     ensures unacked { OnErr result (acks_below kept.new ≡ acks_below kept.old) }
     ensures fault { IfErr result IsLineFault }
     ensures going { OnOk result (stop_below kept.new ≡ None) }
@@ -130,7 +131,7 @@ fn execute_line<D: Device + Drop>(
     // Whatever the volume stands for.
     ensures answer { IfOk result (MayGet (line_of line.now)) }
     ensures acked { OnOk result
-        (HasAcked (durable (line_of line.now ∷ [])) (acks_below kept.old) (acks_below kept.new)) }
+        (HasAcked (acks_due (line_of line.now)) (acks_below kept.old) (acks_below kept.new)) }
     ensures unacked { OnErr result (acks_below kept.new ≡ acks_below kept.old) }
     ensures fault { IfErr result IsLineFault }
     ensures going { OnOk result (stop_below kept.new ≡ None) }
@@ -193,16 +194,16 @@ fn run_line<D: Device + Drop, K: Sink>(
 ) -> Result<ControlFlow<()>, Fault>
     requires { stop_below kept.old ≡ None }
     ensures ok { OnOk result ((first : D) (since : ℕ)
-        → ExecutesOne (KeptAt D.Device first since kept.old)
-        (KeptAt D.Device first since kept.new) (line_of line.now)
+        → ExecutesOne (TurnsAt D.Device first since kept.old)
+        (TurnsAt D.Device first since kept.new) (spoken Single line.now)
         (output (K.written sink.old) (acks_below kept.old))
         (output (K.written sink.new) (acks_below kept.new))) }
     ensures err { IfErr result (λ e. (first : D) (since : ℕ)
-        → RunFails e (KeptAt D.Device first since kept.old)
-        (KeptAt D.Device first since kept.new) (line_of line.now)
+        → RunFails e (TurnsAt D.Device first since kept.old)
+        (TurnsAt D.Device first since kept.new) (spoken Single line.now)
         (output (K.written sink.old) (acks_below kept.old))
         (output (K.written sink.new) (acks_below kept.new))) }
-    ensures flow { IfOk result (λ flow. breaks flow ≡ is_stop (line_of line.now)) }
+    ensures flow { IfOk result (λ flow. breaks flow ≡ is_stop (spoken Single line.now)) }
     ensures going { OnOk result (stop_below kept.new ≡ None) }
     ensures device { Stays D.Device (device_below kept.old) (device_below kept.new) }
     ensures writes { FailsNoWrite D.Device (device_below kept.old) (device_below kept.new) result }
@@ -308,17 +309,17 @@ impl<D: Device + Drop> Shell<D> {
         requires going { stop_in self.old ≡ None }
         ensures ok { OnOk result ((first : D) (since : ℕ)
             → ExecutesOne (ShellAt D.Device first since self.old)
-            (ShellAt D.Device first since self.new) (line_of (held_of self.old ++ last.now))
+            (ShellAt D.Device first since self.new) (spoken Single (held_of self.old ++ last.now))
             (output (K.written sink.old) (acks_in self.old))
             (output (K.written sink.new) (acks_in self.new))) }
         ensures err { IfErr result (λ e. (first : D) (since : ℕ)
             → RunFails e (ShellAt D.Device first since self.old)
-            (ShellAt D.Device first since self.new) (line_of (held_of self.old ++ last.now))
+            (ShellAt D.Device first since self.new) (spoken Single (held_of self.old ++ last.now))
             (output (K.written sink.old) (acks_in self.old))
             (output (K.written sink.new) (acks_in self.new))) }
         ensures line { OnOk result (held_of self.new ≡ []) }
         ensures flow { IfOk result (λ flow.
-            breaks flow ≡ is_stop (line_of (held_of self.old ++ last.now))) }
+            breaks flow ≡ is_stop (spoken Single (held_of self.old ++ last.now))) }
         ensures going { OnOk result (stop_in self.new ≡ None) }
         ensures device { Stays D.Device (device_in self.old) (device_in self.new) }
         ensures writes { FailsNoWrite D.Device (device_in self.old) (device_in self.new) result }
@@ -349,18 +350,19 @@ impl<D: Device + Drop> Shell<D> {
         requires going { stop_in self.old ≡ None }
         ensures ok { OnOk result ((first : D) (since : ℕ)
             → Executes (ShellAt D.Device first since self.old)
-            (ShellAt D.Device first since self.new) (completed (held_of self.old) piece.now)
+            (ShellAt D.Device first since self.new) (completed Single (held_of self.old) piece.now)
             (output (K.written sink.old) (acks_in self.old))
             (output (K.written sink.new) (acks_in self.new))) }
         ensures err { IfErr result (λ e. (first : D) (since : ℕ)
-            → BreaksOff e (ShellAt D.Device first since self.old)
+            → BreaksOff Single e (ShellAt D.Device first since self.old)
             (ShellAt D.Device first since self.new) (held_of self.old) piece.now
             (output (K.written sink.old) (acks_in self.old))
             (output (K.written sink.new) (acks_in self.new))) }
         ensures line { IfOk result (λ flow. breaks flow ≡ false
             → held_of self.new ≡ held (open_line (held_of self.old ++ piece.now))) }
         ensures flow { IfOk result
-            (λ flow. breaks flow ≡ list_any is_stop (meanings (held_of self.old ++ piece.now))) }
+            (λ flow.
+            breaks flow ≡ list_any is_stop (meanings Single (held_of self.old ++ piece.now))) }
         ensures going { OnOk result (stop_in self.new ≡ None) }
         ensures device { Stays D.Device (device_in self.old) (device_in self.new) }
         ensures writes { FailsNoWrite D.Device (device_in self.old) (device_in self.new) result }
@@ -386,17 +388,17 @@ impl<D: Device + Drop> Shell<D> {
         requires { stop_in self.old ≡ None }
         ensures ok { OnOk result ((first : D) (since : ℕ)
             → Executes (ShellAt D.Device first since self.old)
-            (ShellAt D.Device first since self.new) (last_lines (held_of self.old))
+            (ShellAt D.Device first since self.new) (last_lines Single (held_of self.old))
             (output (K.written sink.old) (acks_in self.old))
             (output (K.written sink.new) (acks_in self.new))) }
         ensures err { IfErr result (λ e. (first : D) (since : ℕ)
             → RunFails e (ShellAt D.Device first since self.old)
-            (ShellAt D.Device first since self.new) (line_of (held_of self.old))
+            (ShellAt D.Device first since self.new) (spoken Single (held_of self.old))
             (output (K.written sink.old) (acks_in self.old))
             (output (K.written sink.new) (acks_in self.new))) }
         ensures some { OnErr result (is_empty (held_of self.old) ≡ false) }
         ensures flow { IfOk result
-            (λ flow. breaks flow ≡ list_any is_stop (last_lines (held_of self.old))) }
+            (λ flow. breaks flow ≡ list_any is_stop (last_lines Single (held_of self.old))) }
         ensures going { OnOk result (stop_in self.new ≡ None) }
         ensures device { Stays D.Device (device_in self.old) (device_in self.new) }
         ensures writes { FailsNoWrite D.Device (device_in self.old) (device_in self.new) result }

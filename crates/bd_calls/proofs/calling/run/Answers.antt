@@ -2,6 +2,7 @@
 -- or that weren't read, touch nothing.
 use Rattle.std.proofs.Common.{refl, sym, ap, ◌∙◌, rules, arith, inl, inr}
 use Rattle.std.specs.declared.option.Option.TheVariants.{Some}
+use Rattle.bd_sessions.specs.Spoken.{Single}
 use Rattle.bd_shell.specs.Fault.{faults}
 use Rattle.bd_shell.specs.Session.{end_of}
 use Rattle.bd_fill.specs.Counting.{tally_line}
@@ -24,7 +25,7 @@ pub returns-in-Ok-Run-clause-complete : goal.returns-in-Ok-Run-clause-complete
 returns-in-Ok-Run-clause-complete g c =
     let ran = c.run_image-ended in
     of_call _ _ (Run c.in-Ok-Run.image.now) (ap (λ f. Some (call_at f)) (sym c.in-Ok-Run.field-0-is) ∙ sym c.in-Ok-Run.ensures.task)
-    (λ ready f. run_complete ran.result.result _ _ _ _ _ _ _ _ _ c.end_call.ensures.status ran.ensures.ran ran.ensures.cause c.end_call.ensures.later ready f)
+    (λ ready f. run_complete Single ran.result.result _ _ _ _ _ _ _ _ _ c.end_call.ensures.status ran.ensures.ran ran.ensures.cause c.end_call.ensures.later ready f)
 
 pub returns-in-Ok-Format-clause-does : goal.returns-in-Ok-Format-clause-does
 returns-in-Ok-Format-clause-does g c =

@@ -3,6 +3,7 @@ use Rattle.std.proofs.Common.{◌+◌, ◌<◌, [], ◌∙◌, rules}
 use Rattle.std.specs.Prelude.{IfSome}
 use Rattle.std.specs.declared.option.Option.TheVariants.{Some}
 use Rattle.bd_device.specs.Device.{Stays}
+use Rattle.bd_sessions.specs.Spoken.{Single}
 use Rattle.bd_shell.specs.Fault.{faults}
 use Rattle.bd_calls.specs.Work.{disk}
 use Rattle.bd_calls.specs.Run.{ends, Ran}
@@ -14,7 +15,7 @@ use Rattle.bd_calls.proofs.calling.run_device.Goals as goal
 pub returns-in-Err-clause-ran : goal.returns-in-Err-clause-ran
 returns-in-Err-clause-ran g c =
     rw c.new-in-Err.ensures
-    (as_last (λ e. Ran (g.D.Device.call_count c.args.dev.now + 1) (Some c.of_start.result) []
+    (as_last (λ e. Ran Single (g.D.Device.call_count c.args.dev.now + 1) (Some c.of_start.result) []
     (ends (disk (g.D.Device.contents c.args.dev.now) (g.D.Device.call_count c.args.dev.now) (g.D.Device.left_since c.args.dev.now) (g.D.Device.write_fault_count c.args.dev.now) (g.D.Device.last_failed c.args.dev.now))
     (g.S.Source.left c.args.src.now) (g.S.Source.takes c.args.src.now) (g.K.Sink.written c.args.sink.now)
     (faults (g.D.Device.fault_count c.args.dev.now) (g.S.Source.fault_count c.args.src.now) (g.K.Sink.fault_count c.args.sink.now)))
@@ -22,7 +23,7 @@ returns-in-Err-clause-ran g c =
     (g.S.Source.left c.args.src.now) (g.S.Source.takes c.args.src.now) (g.K.Sink.written c.args.sink.now)
     (faults (g.D.Device.fault_count e) (g.S.Source.fault_count c.args.src.now) (g.K.Sink.fault_count c.args.sink.now))))
     _ c.in-Err.refused.device.now (search rules)
-    (ran_unstarted _ c.in-Err.refused.fault c.of_start.result _ c.in-Err.refused.device _ _ _ _ _ c.of_start.ensures c.in-Err.ensures.cause c.in-Err.ensures.undamaged c.in-Err.ensures.wears
+    (ran_unstarted Single _ c.in-Err.refused.fault c.of_start.result _ c.in-Err.refused.device _ _ _ _ _ c.of_start.ensures c.in-Err.ensures.cause c.in-Err.ensures.undamaged c.in-Err.ensures.wears
     c.in-Err.ensures.left c.in-Err.ensures.starts c.blocks-2.ensures.shape))
 
 pub returns-in-Ok-clause-ran : goal.returns-in-Ok-clause-ran
@@ -32,7 +33,7 @@ returns-in-Ok-clause-ran g c =
     let after = ran.new.shell in
     rw c.take_acks-acks.ensures.acks
     (as_last (λ e. (0 < g.D.Device.block_count e → IfSome (g.D.Device.contents e) (g.D.Device.left_since e (g.D.Device.call_count e)))
-    → Ran (g.D.Device.call_count c.args.dev.now + 1) (end_of ran.result) (acks_in after)
+    → Ran Single (g.D.Device.call_count c.args.dev.now + 1) (end_of ran.result) (acks_in after)
     (ends (disk (g.D.Device.contents c.args.dev.now) (g.D.Device.call_count c.args.dev.now) (g.D.Device.left_since c.args.dev.now) (g.D.Device.write_fault_count c.args.dev.now) (g.D.Device.last_failed c.args.dev.now))
     (g.S.Source.left c.args.src.now) (g.S.Source.takes c.args.src.now) (g.K.Sink.written c.args.sink.now)
     (faults (g.D.Device.fault_count c.args.dev.now) (g.S.Source.fault_count c.args.src.now) (g.K.Sink.fault_count c.args.sink.now)))
@@ -40,7 +41,7 @@ returns-in-Ok-clause-ran g c =
     (g.S.Source.left ran.new.src) (g.S.Source.takes ran.new.src) (g.K.Sink.written ran.new.sink)
     (faults (g.D.Device.fault_count e) (g.S.Source.fault_count ran.new.src) (g.K.Sink.fault_count ran.new.sink))))
     _ (device_in after).now (search rules)
-    (λ may_stay. ran_session _ (end_of ran.result) _ before after _ _ _ _ _ _ _ _ (ran.ensures.session (device_in before) (g.D.Device.call_count c.args.dev.now + 1))
+    (λ may_stay. ran_session _ Single (end_of ran.result) _ before after _ _ _ _ _ _ _ _ (ran.ensures.session (device_in before) (g.D.Device.call_count c.args.dev.now + 1))
     c.in-Ok.ensures.acks c.in-Ok.ensures.stands c.in-Ok.ensures.first c.in-Ok.ensures.only (λ none. ok_of_none ran.result _ none ran.ensures.going) c.saved_is_shown.ensures may_stay
     c.blocks-2.ensures.shape (ran.ensures.device.count ∙ c.in-Ok.ensures.only.stays.count) (names_damage ran.result _ _ ran.ensures.damage))
     c.blocks-in-Ok.ensures.may_stay)

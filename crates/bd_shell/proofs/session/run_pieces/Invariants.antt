@@ -3,6 +3,7 @@ use Rattle.std.proofs.Common.{◌≡◌, ◌-◌, ℕ}
 use Rattle.std.specs.declared.option.Option.TheVariants.{None}
 use Rattle.bd_device.specs.Device.{Stays}
 use Rattle.bd_limits.specs.Limits.{script_limit}
+use Rattle.bd_sessions.specs.Spoken.{Single}
 use Rattle.bd_shell.specs.Transcript.{output}
 use Rattle.bd_shell.specs.Shell.{ShellAt, acks_in, device_in, held_of, stop_in}
 use Rattle.bd_shell.proofs.Scripts.{Stands}
@@ -10,7 +11,7 @@ use Rattle.bd_shell.proofs.session.run_pieces.Given as goal
 
 abbrev pub invariant-pieces : goal.invariant-pieces
 invariant-pieces g l = record {
-  stands : (first : g.row.D.Denot) (since : ℕ) → Stands (ShellAt g.D.Device first since l.fn.shell) (ShellAt g.D.Device first since l.shell) (held_of l.shell) l.taken
+  stands : (first : g.row.D.Denot) (since : ℕ) → Stands Single (ShellAt g.D.Device first since l.fn.shell) (ShellAt g.D.Device first since l.shell) (held_of l.shell) l.taken
       (g.S.Source.left l.fn.src) (g.S.Source.left l.src) (output (g.K.Sink.written l.fn.sink) (acks_in l.fn.shell)) (output (g.K.Sink.written l.sink) (acks_in l.shell))
       (g.S.Source.takes l.fn.src) (g.S.Source.takes l.src);
   going : stop_in l.shell ≡ None;

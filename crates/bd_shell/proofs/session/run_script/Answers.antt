@@ -1,6 +1,7 @@
 -- The pieces are executed, the last replies passed on, and all is made durable.
 use Rattle.std.proofs.Common.{refl, ap, subst, ◌∙◌}
 use Rattle.std.proofs.lemmas.Result.{err_from_is_err_and}
+use Rattle.bd_sessions.specs.Spoken.{Single}
 use Rattle.bd_shell.specs.Fault.{Faults, faults, IsCaused}
 use Rattle.bd_shell.specs.Session.{breaks}
 use Rattle.bd_shell.specs.Shell.{device_in}
@@ -13,17 +14,17 @@ use Rattle.bd_shell.proofs.session.run_script.Goals as goal
 pub returns-in_err-flow-clause-session : goal.returns-in_err-flow-clause-session
 returns-in_err-flow-clause-session g c =
     let p = err_from_is_err_and c.from_residual.result c.from_residual.ensures.1 in
-    rw (p.1, p.2) (λ first since. session_faulted c.in_err-flow.field-0.0 _ _ _ _ _ _ _ _ (c.in_err-flow.ensures.session first since))
+    rw (p.1, p.2) (λ first since. session_faulted Single c.in_err-flow.field-0.0 _ _ _ _ _ _ _ _ (c.in_err-flow.ensures.session first since))
 
 pub returns-in_err-flush-clause-session : goal.returns-in_err-flush-clause-session
 returns-in_err-flush-clause-session g c =
     let p = err_from_is_err_and c.from_residual-in_err-flush.result c.from_residual-in_err-flush.ensures.1 in
     rw (p.1, p.2, c.in_err-flush.ensures.kind)
-    (λ first since. session_keeps_last _ _ c.in_ok-flow.flow _ _ _ _ _ _ _ (c.in_ok-flow.ensures.session first since) c.in_err-flush.ensures.bytes refl)
+    (λ first since. session_keeps_last Single _ _ c.in_ok-flow.flow _ _ _ _ _ _ _ (c.in_ok-flow.ensures.session first since) c.in_err-flush.ensures.bytes refl)
 
 pub returns-in-Continue-clause-session : goal.returns-in-Continue-clause-session
 returns-in-Continue-clause-session g c first since =
-    session_close c.close.result _ _ _ c.in_ok-flow.flow _ _ _ _ _ _ _ (c.in_ok-flow.ensures.session first since) c.in_ok-flush.ensures.bytes (ap breaks c.in-Continue.is)
+    session_close Single c.close.result _ _ _ c.in_ok-flow.flow _ _ _ _ _ _ _ (c.in_ok-flow.ensures.session first since) c.in_ok-flush.ensures.bytes (ap breaks c.in-Continue.is)
     (on_ok_as c.close.result _ _ (λ f. f first since) c.close.ensures.ok) (on_err_as c.close.result _ _ (λ f. f first since) c.close.ensures.err)
     (on_ok_as c.close.result _ _ (acks_one _ _ _) c.close.ensures.acked) c.close.ensures.unacked c.close.ensures.kind
 
@@ -40,4 +41,4 @@ returns-in-Continue-clause-cause g c =
 
 pub returns-in-Break-clause-session : goal.returns-in-Break-clause-session
 returns-in-Break-clause-session g c first since =
-    session_stopped _ _ c.in_ok-flow.flow _ _ _ _ _ _ _ (c.in_ok-flow.ensures.session first since) c.in_ok-flush.ensures.bytes refl (ap breaks c.in-Break.is)
+    session_stopped Single _ _ c.in_ok-flow.flow _ _ _ _ _ _ _ (c.in_ok-flow.ensures.session first since) c.in_ok-flush.ensures.bytes refl (ap breaks c.in-Break.is)

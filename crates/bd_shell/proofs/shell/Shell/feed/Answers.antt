@@ -1,6 +1,7 @@
 -- Each line goes on from the lines before it, and what is left at the end is held.
 use Rattle.std.proofs.Common.{◌++◌, refl, sym, ap, ◌∙◌}
 use Rattle.std.proofs.lemmas.Result.{err_from_is_err_and}
+use Rattle.bd_sessions.specs.Spoken.{Single}
 use Rattle.bd_shell.specs.Session.{breaks}
 use Rattle.bd_shell.proofs.Executes.{executes_none, executes_one}
 use Rattle.bd_shell.proofs.Left.{leaves_nothing}
@@ -10,7 +11,7 @@ use Rattle.bd_shell.proofs.shell.Shell.feed.Goals as goal
 
 pub lines-init : goal.lines-init
 lines-init g c = record {
-  fed = λ first since. fed_none _ _ _ _ c.requires.begun (executes_none _ _);
+  fed = λ first since. fed_none Single _ _ _ _ c.requires.begun (executes_none _ _);
   going = c.requires.going;
   device = stays_same g.D.Device _;
   writes = refl;
@@ -27,7 +28,7 @@ end_line-requires g c = record {
 pub returns-in_err-end_line-clause-err : goal.returns-in_err-end_line-clause-err
 returns-in_err-end_line-clause-err g c =
     let p = err_from_is_err_and c.from_residual.result c.from_residual.ensures.1 in
-    rw (p.1, p.2) (λ first since. fails_fed c.in_err-end_line.field-0.0 _ _ _ _ _ _ _ _ _ _ _ _ (c.lines.invariant.fed first since) c.in-Some.ensures (c.in_err-end_line.ensures.err first since))
+    rw (p.1, p.2) (λ first since. fails_fed Single c.in_err-end_line.field-0.0 _ _ _ _ _ _ _ _ _ _ _ _ (c.lines.invariant.fed first since) c.in-Some.ensures (c.in_err-end_line.ensures.err first since))
 
 pub returns-in_err-end_line-clause-device : goal.returns-in_err-end_line-clause-device
 returns-in_err-end_line-clause-device g c = stays_more g.D.Device _ _ _ c.lines.invariant.device c.in_err-end_line.ensures.device
@@ -44,14 +45,14 @@ returns-in_err-end_line-clause-cause g c =
 
 pub returns-in-Break-clause-ok : goal.returns-in-Break-clause-ok
 returns-in-Break-clause-ok g c first since =
-    stops_fed _ _ _ _ _ _ _ _ _ _ _ _ (c.lines.invariant.fed first since) c.in-Some.ensures
+    stops_fed Single _ _ _ _ _ _ _ _ _ _ _ _ (c.lines.invariant.fed first since) c.in-Some.ensures
     (sym c.in_ok-end_line.ensures.flow ∙ ap breaks c.in-Break.is)
     (executes_one _ _ _ _ _ (c.in_ok-end_line.ensures.ok first since))
 
 pub returns-in-Break-clause-flow : goal.returns-in-Break-clause-flow
 returns-in-Break-clause-flow g c =
     let fed = c.lines.invariant.fed c.args.self.now.kept.volume.engine.pager.dev 0 in
-    sym (fed_stops c.args.self.now.line.items c.args.piece.now fed.front c.lines.rest.now c.in-Some.last.now c.in-Some.tail.now c.lines.self.line.items fed.piece_is c.in-Some.ensures fed.line_is fed.no_stop
+    sym (fed_stops Single c.args.self.now.line.items c.args.piece.now fed.front c.lines.rest.now c.in-Some.last.now c.in-Some.tail.now c.lines.self.line.items fed.piece_is c.in-Some.ensures fed.line_is fed.no_stop
     (sym c.in_ok-end_line.ensures.flow ∙ ap breaks c.in-Break.is)).stop
 
 pub returns-in-Break-clause-device : goal.returns-in-Break-clause-device
@@ -65,7 +66,7 @@ returns-in-Break-clause-cause g c = went_on _ _ _ _ (c.in_ok-end_line.ensures.ca
 
 pub lines-preserved : goal.lines-preserved
 lines-preserved g c = record {
-  fed = λ first since. fed_more _ _ _ _ _ _ _ _ _ _ _ _ _ (c.lines.invariant.fed first since) c.in-Some.ensures
+  fed = λ first since. fed_more Single _ _ _ _ _ _ _ _ _ _ _ _ _ (c.lines.invariant.fed first since) c.in-Some.ensures
       (sym c.in_ok-end_line.ensures.flow ∙ not_break c.in_ok-end_line.field-0 c.in_default-2.not-Break)
       c.in_ok-end_line.ensures.line
       (executes_one _ _ _ _ _ (c.in_ok-end_line.ensures.ok first since));
@@ -82,15 +83,15 @@ hold-requires g c =
 
 pub returns-clause-ok : goal.returns-clause-ok
 returns-clause-ok g c first since =
-    ends_fed _ _ _ _ _ _ _ _ (c.lines.invariant.fed first since) (at_none _ c.cut_line.result c.cut_line.ensures c.in_default.not-Some)
+    ends_fed Single _ _ _ _ _ _ _ _ (c.lines.invariant.fed first since) (at_none _ c.cut_line.result c.cut_line.ensures c.in_default.not-Some)
 
 pub returns-clause-line : goal.returns-clause-line
 returns-clause-line g c goes_on =
-    (fed_ends _ _ _ _ _ _ _ _ _ (c.lines.invariant.fed c.args.self.now.kept.volume.engine.pager.dev 0) (at_none _ c.cut_line.result c.cut_line.ensures c.in_default.not-Some) c.in_ok-hold.ensures.ok).line_is
+    (fed_ends Single _ _ _ _ _ _ _ _ _ (c.lines.invariant.fed c.args.self.now.kept.volume.engine.pager.dev 0) (at_none _ c.cut_line.result c.cut_line.ensures c.in_default.not-Some) c.in_ok-hold.ensures.ok).line_is
 
 pub returns-clause-flow : goal.returns-clause-flow
 returns-clause-flow g c =
-    sym (fed_ends _ _ _ _ _ _ _ _ _ (c.lines.invariant.fed c.args.self.now.kept.volume.engine.pager.dev 0) (at_none _ c.cut_line.result c.cut_line.ensures c.in_default.not-Some) c.in_ok-hold.ensures.ok).no_stop
+    sym (fed_ends Single _ _ _ _ _ _ _ _ _ (c.lines.invariant.fed c.args.self.now.kept.volume.engine.pager.dev 0) (at_none _ c.cut_line.result c.cut_line.ensures c.in_default.not-Some) c.in_ok-hold.ensures.ok).no_stop
 
 pub returns-clause-cause : goal.returns-clause-cause
 returns-clause-cause g c = went_on _ _ _ _ c.lines.invariant.counts
@@ -98,7 +99,7 @@ returns-clause-cause g c = went_on _ _ _ _ c.lines.invariant.counts
 pub returns-in_err-hold-clause-err : goal.returns-in_err-hold-clause-err
 returns-in_err-hold-clause-err g c =
     let p = err_from_is_err_and c.from_residual-in_err-hold.result c.from_residual-in_err-hold.ensures.1 in
-    rw (p.1, p.2) (λ first since. memory_fed _ _ _ _ _ _ _ _ _ _ (c.lines.invariant.fed first since) c.in_err-hold.ensures.some refl refl (λ t h. leaves_nothing t _ h))
+    rw (p.1, p.2) (λ first since. memory_fed Single _ _ _ _ _ _ _ _ _ _ (c.lines.invariant.fed first since) c.in_err-hold.ensures.some refl refl (λ t h. leaves_nothing t _ h))
 
 pub returns-in_err-hold-clause-writes : goal.returns-in_err-hold-clause-writes
 returns-in_err-hold-clause-writes g c =
