@@ -289,7 +289,7 @@ Makes g (Serve image) status old new = ⊥
 
 -- ---- where nothing fails
 
--- the image stands for a tree and has no open batch
+-- the image stands for a tree
 abbrev pub HasStart : Image → Type 0
 HasStart image = (t : Tree) × (n : ℕ) × ImageStandsFor t n image
 

@@ -6,19 +6,19 @@ use Rattle.bd_node.specs.Steps.{IsWornBy}
 use Rattle.bd_node.specs.Tables.{Table}
 use Rattle.bd_path.specs.Flushed.{IsNoHigher}
 use Rattle.bd_path.specs.Made.{WearsOut}
+use Rattle.bd_step.specs.Beginning.{IsFoundFrom, IsMadeFrom, IsWornFrom}
 use Rattle.bd_step.specs.Steps.{step_visits}
 use Rattle.bd_cover.specs.declared.walking.Reclaim.{Reclaim}
 use Rattle.bd_cover.specs.declared.walking.Reclaim.TheVariants.{Shrink, Drop, Redirect, Push}
 use Rattle.bd_cover.specs.Walking.{IfPush}
 use Rattle.bd_cover.specs.Reclaimed.{IsDecidedAt, IsShrunk, IsDecideStep, root_only, left_over}
-use Rattle.bd_reclaim.specs.Pushing.{IsPushFound, IsPushMade, IsWornPush}
 
 -- what became of the nodes, by the change
 abbrev pub IsReclaimMade : Nodes → Table → Reclaim → Nodes → Table → Type 0
 IsReclaimMade nodes t (Shrink child) new u = IsShrunk nodes child new u
 IsReclaimMade nodes t (Drop node place at) new u = IsDecidedAt nodes node place at new u
 IsReclaimMade nodes t (Redirect node place at) new u = IsDecidedAt nodes node place at new u
-IsReclaimMade nodes t (Push above node place) new u = IsPushMade nodes t above node place new u
+IsReclaimMade nodes t (Push above node place) new u = IsMadeFrom nodes t above node place new u
 
 -- why a change is refused: a counter has to pass its last value for all that it adds. One that is no
 -- push makes no node, and needs no level
@@ -29,14 +29,14 @@ IsWornChange known nodes t (Drop node place at) counter =
 IsWornChange known nodes t (Redirect node place at) counter =
     WearsOut (IsDecideStep t.root node place at) t counter
 IsWornChange known nodes t (Push above node place) counter =
-    IsWornPush known nodes t above node place counter
+    IsWornFrom known nodes t above node place counter
 
 -- what became of the root, by the change, as far as the tables tell
 abbrev pub IsRootAfter : Table → Reclaim → Table → Type 0
 IsRootAfter t (Shrink child) u = (u.root ≡ child) × (u.level u.root ≡ t.level child)
 IsRootAfter t (Drop node place at) u = IsNoHigher t u
 IsRootAfter t (Redirect node place at) u = IsNoHigher t u
-IsRootAfter t (Push above node place) u = IsPushFound t above node place u
+IsRootAfter t (Push above node place) u = IsFoundFrom t above node place u
 
 -- a change makes no nodes, unless it is a push
 abbrev pub IsNextAfter : Table → Reclaim → Table → Type 0

@@ -1,2 +1,1 @@
-pub mod Pushing
 pub mod Changes

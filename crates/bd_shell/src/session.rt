@@ -73,8 +73,8 @@ pub fn flush<K: Sink>(sink: &mut K) -> Result<(), Fault>
 }
 
 /// Executes a script, to its end or to a `stop`; at its end all is made durable and acknowledged,
-/// as at `stop`. At a fault the lines before it were executed, all of them where the last sync
-/// failed. Before each take and at the end the sink passes on what was written.
+/// as at `stop`. At a fault the lines before it were executed. Before each take and at the end the
+/// sink passes on what was written.
 pub fn run_script<D: Device + Drop, S: Source, K: Sink>(
     alloc: Global,
     shell: &mut Shell<D>,

@@ -6,3 +6,7 @@ pub mod Reading
 pub mod OldestGotos
 pub mod Down
 pub mod Making
+pub mod Begins
+pub mod Unders
+pub mod Alongs
+pub mod Settles

@@ -123,7 +123,7 @@ privatise_few t site before now h few =
 
 -- ---- abundance
 
-abundant_in : (n : Node) → IsShape n → soft_limit < buffer_size n → (place : ℕ) → IsFullestAt n place → IsAbundantAt n place
+pub abundant_in : (n : Node) → IsShape n → soft_limit < buffer_size n → (place : ℕ) → IsFullestAt n place → IsAbundantAt n place
 abundant_in (Leaf entries) shape more place full = absurd (omega arith)
 abundant_in (Inner level edges buffer) shape more place full = record {
   bytes = full.bytes;

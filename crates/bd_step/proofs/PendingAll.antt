@@ -1,5 +1,5 @@
 -- How many bytes are pending for each edge, message by message.
-use Rattle.std.proofs.Common.{◌≡◌, Less, ℕ, zero, suc, ◌+◌, ◌<◌, ◌≤◌, true, List, [], ◌∷◌, length, drop, take, get_or, set, refl, sym, ap, subst, ◌∙◌, Option, Some, arith, inl, inr, add-one}
+use Rattle.std.proofs.Common.{◌≡◌, Less, ℕ, zero, suc, ◌+◌, ◌<◌, ◌≤◌, true, List, [], ◌∷◌, length, drop, take, get_or, set, refl, sym, ap, subst, ◌∙◌, Some, arith, inl, inr, add-one}
 use Rattle.std.specs.Prelude.{slice_get}
 use Rattle.std.specs.List.{sum_by}
 use Rattle.std.proofs.lemmas.Bool.{cases_eq}
@@ -15,7 +15,7 @@ use Rattle.bd_message.specs.Messages.{size}
 use Rattle.bd_node.specs.declared.node.Edge.{Edge}
 use Rattle.bd_node.specs.Index.{is_point, own_key}
 use Rattle.bd_node.specs.Nodes.{edge_of}
-use Rattle.bd_node.specs.Shape.{end_before, AreRising, EachEdge, IsPending}
+use Rattle.bd_node.specs.Shape.{end_before, AreRising, IsPending}
 use Rattle.bd_node.proofs.Edges.{edge_of-only}
 use Rattle.bd_node.proofs.Indexing.{touches_point}
 use Rattle.bd_node.proofs.Owning.{edge_has}

@@ -15,7 +15,7 @@ pub record IsRead (n : Node) (place : ℕ) (e : Edge) (es : List Edge) : Type 0 
   pub low : place < length (edges_of n)
   pub read : e ≡ get_or es place e
 
-here_of : (n : Node) (place : ℕ) (e : Edge) (es : List Edge) → IsRead n place e es → IsEdgeAt n place e
+pub here_of : (n : Node) (place : ℕ) (e : Edge) (es : List Edge) → IsRead n place e es → IsEdgeAt n place e
 here_of n place e es h = edge_here es n place e h.same h.low h.read
 
 pub read_shape : (n : Node) (place : ℕ) (e : Edge) (es : List Edge) → IsRead n place e es → IsEdge (length (buffer_of n)) e (end_at n place)

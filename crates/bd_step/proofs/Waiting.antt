@@ -47,7 +47,7 @@ among e hi place (m ∷ ms) n h some =
     ]
 
 -- the bytes that are pending for the edge at a place
-size_at : (buffer : List Message) (es : List Edge) (ns : List ℕ) (place : ℕ) (e : Edge) (n : ℕ) → ArePendingSizes buffer es ns → slice_get es place ≡ Some e → slice_get ns place ≡ Some n
+pub size_at : (buffer : List Message) (es : List Edge) (ns : List ℕ) (place : ℕ) (e : Edge) (n : ℕ) → ArePendingSizes buffer es ns → slice_get es place ≡ Some e → slice_get ns place ≡ Some n
     → IsPendingSize e (end_before (drop (suc place) es)) 0 buffer n
 size_at buffer [] ns place e n h there is = cc
 size_at buffer (d ∷ es) [] place e n h there is = absurd h

@@ -40,6 +40,12 @@ pub record HasPending (n : Node) (place : ℕ) (e : Edge) : Type 0 where
   pub there : slice_get (buffer_of n) index ≡ Some message
   pub pending : IsPending index message e (end_at n place)
 
+-- a message is pending for the edge at a place of a node
+pub record HasPendingAt (n : Node) (place : ℕ) : Type 0 where
+  pub edge : Edge
+  pub here : IsEdgeAt n place edge
+  pub pending : HasPending n place edge
+
 -- an edge of a node, on the way down from one: that one, or the edge for which most bytes wait, of the
 -- child of such an edge of a node with at most 14 edges, if the child is private, asked with nothing
 -- in front of a key, and more than 16,384 bytes wait in it

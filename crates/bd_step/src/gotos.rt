@@ -112,7 +112,7 @@ fn may_go_down<S: NodeStore>(
 }
 
 // Whether all keys that begin with a prefix are at least `lo` and below `hi`.
-fn lies_within(prefix: &[u8], lo: &[u8], hi: Option<&[u8]>) -> bool
+pub(crate) fn lies_within(prefix: &[u8], lo: &[u8], hi: Option<&[u8]>) -> bool
     ensures { IsTrue result ↔ LiesWithin prefix.now lo.now (option_copied hi.entry) }
 {
     if !begins_from(prefix, lo) {

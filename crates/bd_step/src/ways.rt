@@ -257,7 +257,7 @@ fn push_or_carve<S: NodeStore>(
 
 // What an edge asks.
 #[derive(Clone, Copy)]
-enum Asked {
+pub(crate) enum Asked {
     // No child.
     Nothing,
     // A child, with something in front of what is left of a key.
@@ -267,7 +267,7 @@ enum Asked {
 }
 
 // What the edge at a place asks.
-fn asks(node: &Node, place: usize) -> Asked
+pub(crate) fn asks(node: &Node, place: usize) -> Asked
     requires { place < length (edges_of node.now) }
     ensures { IsAsked node.now place result }
 {

@@ -17,6 +17,7 @@ ghost use Rattle.bd_path.specs.Made.{AreKnown};
 ghost use Rattle.bd_cover.specs.Walking.{IsFirst, HasNone, IsToDo, IsToDoAt, walk_size};
 ghost use Rattle.bd_cover.specs.Reclaimed.{IsReclaimed};
 ghost use Rattle.bd_reclaim.specs.Changes.{IsReclaimMade, IsRootAfter, IsNextAfter, LeavesLess, reclaim_visits, IsWornChange};
+ghost use Rattle.bd_step.specs.Settling.{IsSettled, IsSettleStep, IsSettleFound, IsWornToSettle};
 ghost use Rattle.bd_step.specs.Steps.{IsFlushStep, IsFound, step_visits, IsWornToFlush};
 ghost use Rattle.bd_scan.specs.Scans.{IsScan};
 ghost use Rattle.bd_tree.specs.Lending.{lends_store};
@@ -29,7 +30,7 @@ use bd_node::{Messages, NodeStore};
 use bd_query::{get, next, scan};
 use bd_reclaim::reclaim_step;
 use bd_scan::Found;
-use bd_step::flush_step;
+use bd_step::{flush_step, settle_step};
 use std::alloc::Global;
 use std::marker::Model;
 
@@ -381,5 +382,33 @@ impl<S: NodeStore> Tree<S> {
         ensures walk { self.new.walk ≡ self.old.walk }
     {
         flush_step(self.alloc, &mut self.store, limit)
+    }
+
+    /// Makes one step of a flush where 1,024 bytes or more of messages wait for the keys that begin
+    /// with a prefix, at a private node of its way, and says whether it did: what the tree has stays.
+    /// At most four nodes are made, a shared node is copied only for 1,024 pending bytes or more, and
+    /// there are at most as many visits as in a step of a flush. A fault leaves all as it was.
+    pub fn settle_step(&mut self, prefix: &[u8]) -> Result<bool, MapFault>
+        ensures same { OfSound S.NodeStore self.old.store
+            ((k : List ℕ) → root_at (S.nodes self.new.store) (S.table self.new.store) k
+            ≡ root_at (S.nodes self.old.store) (S.table self.old.store) k) }
+        ensures settled { OfSound S.NodeStore self.old.store (result ≡ Ok false
+            → IsSettled (S.nodes self.old.store) (S.table self.old.store) prefix.now) }
+        ensures step { OfSound S.NodeStore self.old.store (result ≡ Ok true
+            → IsSettleStep (S.nodes self.old.store) (S.table self.old.store) prefix.now
+            (S.nodes self.new.store) (S.table self.new.store)) }
+        ensures found { result ≡ Ok true
+            → IsSettleFound (S.table self.old.store) (S.table self.new.store) }
+        ensures stays { Stays S.NodeStore self.old.store self.new.store }
+        ensures rest { result ≢ Ok true → OnlyReads S.NodeStore self.old.store self.new.store }
+        ensures few_visits { S.visit_count self.new.store
+            ≤ S.visit_count self.old.store + step_visits (S.table self.old.store) }
+        ensures cause { HasMapCause (S.fault_count self.old.store) (S.fault_count self.new.store)
+            (S.last_failed self.new.store) (S.bad self.new.store)
+            (IsWornToSettle (AreKnown S.NodeStore self.old.store) (S.nodes self.old.store)
+            (S.table self.old.store) prefix.now) result }
+        ensures walk { self.new.walk ≡ self.old.walk }
+    {
+        settle_step(self.alloc, &mut self.store, prefix)
     }
 }

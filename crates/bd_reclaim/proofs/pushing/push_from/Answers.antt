@@ -1,44 +1,15 @@
-use Rattle.bd_path.specs.Made.{AreKnown}
-use Rattle.bd_step.proofs.Making.{still_known}
-use Rattle.bd_reclaim.proofs.Begins.{push_on_ok, push_on_made, push_on_found, push_cause, stands_again, way_again, sound_before}
+use Rattle.std.proofs.Common.{reverse, arith}
+use Rattle.bd_step.proofs.Begins.{way_under}
+use Rattle.bd_reclaim.proofs.Pushes.{cut_pending, on_flushed}
 use Rattle.bd_reclaim.proofs.pushing.push_from.Goals as goal
 
-pub make-requires-clause-here : goal.make-requires-clause-here
-make-requires-clause-here g c = λ known sound.
-    let was = g.met.S.NodeStore.reads_known c.args.store.now c.push_step.new.store c.push_step.ensures.left.read known in
-    let before = sound_before (g.S.NodeStore.nodes c.args.store.now) (g.S.NodeStore.nodes c.push_step.new.store) (g.S.NodeStore.table c.args.store.now) (g.S.NodeStore.table c.push_step.new.store) (c.push_step.ensures.left.kept was) c.push_step.ensures.left.table sound in
-    stands_again (g.S.NodeStore.nodes c.args.store.now) (g.S.NodeStore.nodes c.push_step.new.store) (g.S.NodeStore.table c.args.store.now) (g.S.NodeStore.table c.push_step.new.store) c.in_ok-step.step (c.push_step.ensures.left.kept was) c.push_step.ensures.left.table (c.in_ok-step.ensures.stands was (c.requires.own was before) (c.requires.all_own was before))
-
-pub make-requires-clause-way_here : goal.make-requires-clause-way_here
-make-requires-clause-way_here g c = λ known sound.
-    let was = g.met.S.NodeStore.reads_known c.args.store.now c.push_step.new.store c.push_step.ensures.left.read known in
-    let before = sound_before (g.S.NodeStore.nodes c.args.store.now) (g.S.NodeStore.nodes c.push_step.new.store) (g.S.NodeStore.table c.args.store.now) (g.S.NodeStore.table c.push_step.new.store) (c.push_step.ensures.left.kept was) c.push_step.ensures.left.table sound in
-    way_again (g.S.NodeStore.nodes c.args.store.now) (g.S.NodeStore.nodes c.push_step.new.store) (g.S.NodeStore.table c.args.store.now) (g.S.NodeStore.table c.push_step.new.store) c.in_ok-step.step (c.push_step.ensures.left.kept was) c.push_step.ensures.left.table (c.in_ok-step.ensures.way_at was (c.requires.own was before) (c.requires.all_own was before))
+pub make_from-requires-clause-pending : goal.make_from-requires-clause-pending
+make_from-requires-clause-pending g c = cut_pending c.args.node.node.value c.args.place c.requires.cut
 
 pub returns-clause-reclaimed : goal.returns-clause-reclaimed
 returns-clause-reclaimed g c = λ known sound.
-    push_on_ok (g.S.NodeStore.nodes c.args.store.now) (g.S.NodeStore.nodes c.push_step.new.store) (g.S.NodeStore.table c.args.store.now) (g.S.NodeStore.table c.push_step.new.store) (g.S.NodeStore.nodes c.make.new.store) (g.S.NodeStore.table c.make.new.store) c.make.result (c.push_step.ensures.left.kept known) c.push_step.ensures.left.table sound (c.make.ensures.flushed (c.push_step.ensures.left.known known))
+    on_flushed (g.S.NodeStore.nodes c.args.store.now) (g.S.NodeStore.table c.args.store.now) (g.S.NodeStore.nodes c.make_from.new.store) (g.S.NodeStore.table c.make_from.new.store) c.make_from.result (c.make_from.ensures.flushed known sound)
 
-pub returns-clause-made : goal.returns-clause-made
-returns-clause-made g c = λ known sound.
-    push_on_made (g.S.NodeStore.nodes c.args.store.now) (g.S.NodeStore.nodes c.push_step.new.store) (g.S.NodeStore.table c.args.store.now) (g.S.NodeStore.table c.push_step.new.store) (g.S.NodeStore.nodes c.make.new.store) (g.S.NodeStore.table c.make.new.store) c.args.above c.args.node c.args.place c.in_ok-step.step c.make.result
-    (record {
-      nodes_are = c.push_step.ensures.left.kept known;
-      table_is = c.push_step.ensures.left.table;
-      sound = sound;
-      due = c.in_ok-step.ensures.due;
-      begins = c.in_ok-step.ensures.begins;
-      stands = c.in_ok-step.ensures.stands known (c.requires.own known sound) (c.requires.all_own known sound);
-      reached = c.in_ok-step.ensures.reached known (c.requires.own known sound);
-    }) (c.make.ensures.made (c.push_step.ensures.left.known known)) c.make.ensures.height (c.make.ensures.flushed (c.push_step.ensures.left.known known))
-
-pub returns-clause-found : goal.returns-clause-found
-returns-clause-found g c =
-    push_on_found (g.S.NodeStore.table c.args.store.now) (g.S.NodeStore.table c.push_step.new.store) (g.S.NodeStore.table c.make.new.store) c.args.above c.args.node c.args.place c.in_ok-step.step c.make.result c.push_step.ensures.left.table c.in_ok-step.ensures.begins c.in_ok-step.ensures.due c.make.ensures.height
-
-pub returns-clause-cause : goal.returns-clause-cause
-returns-clause-cause g c =
-    push_cause (g.S.NodeStore.fault_count c.args.store.now) (g.S.NodeStore.fault_count c.push_step.new.store) (g.S.NodeStore.fault_count c.make.new.store) (g.S.NodeStore.last_failed c.make.new.store) (g.S.NodeStore.bad c.make.new.store) (AreKnown g.S.NodeStore c.args.store.now) (AreKnown g.S.NodeStore c.push_step.new.store) (g.S.NodeStore.nodes c.args.store.now) (g.S.NodeStore.nodes c.push_step.new.store) (g.S.NodeStore.table c.args.store.now) (g.S.NodeStore.table c.push_step.new.store) c.args.above c.args.node c.args.place c.in_ok-step.step c.make.result
-    c.in_ok-step.ensures.cause.kept c.push_step.ensures.left.table
-    (λ k. still_known (g.S.NodeStore.is_known c.push_step.new.store) (g.S.NodeStore.nodes c.args.store.now) (g.S.NodeStore.nodes c.push_step.new.store) (g.S.NodeStore.table c.args.store.now) (g.S.NodeStore.table c.push_step.new.store) (c.push_step.ensures.left.known k.0) (c.push_step.ensures.left.kept k.0) c.push_step.ensures.left.table k.1)
-    c.in_ok-step.ensures.begins c.in_ok-step.ensures.due c.in_ok-step.ensures.way (λ k. c.in_ok-step.ensures.stands k.0 (c.requires.own k.0 k.1) (c.requires.all_own k.0 k.1)) (λ k. c.in_ok-step.ensures.reached k.0 (c.requires.own k.0 k.1)) c.make.ensures.cause
+pub returns-clause-few_visits : goal.returns-clause-few_visits
+returns-clause-few_visits g c =
+    omega (arith, c.make_from.ensures.few_visits, way_under (g.S.NodeStore.table c.args.store.now) c.args.node.id (reverse c.args.above) c.requires.way)

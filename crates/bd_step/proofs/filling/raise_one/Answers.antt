@@ -1,4 +1,4 @@
-use Rattle.std.proofs.Common.{◌≡◌, ◌+◌, ◌<◌, drop, set, length, sym, ap, subst, ◌∙◌, refl, arith, Some}
+use Rattle.std.proofs.Common.{◌≡◌, ◌+◌, ◌<◌, drop, set, length, sym, subst, ◌∙◌, refl, arith, Some}
 use Rattle.std.specs.Prelude.{slice_get}
 use Rattle.std.proofs.lemmas.List.{get_or_default}
 use Rattle.std.proofs.lemmas.Option.{same_Some, slice_get_read, slice_get_within}

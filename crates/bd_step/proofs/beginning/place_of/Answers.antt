@@ -1,8 +1,7 @@
 use Rattle.std.proofs.Common.{sym, ◌∙◌, arith}
 use Rattle.bd_node.proofs.Parts.{edge_here}
-use Rattle.bd_cover.proofs.Covers.{place_low, past_all}
-use Rattle.bd_reclaim.proofs.Begins.{found_it, none_asks_more, some_asks}
-use Rattle.bd_reclaim.proofs.pushing.place_of.Goals as goal
+use Rattle.bd_step.proofs.Begins.{place_low, past_all, found_it, none_asks_more, some_asks}
+use Rattle.bd_step.proofs.beginning.place_of.Goals as goal
 
 pub loop-place-init : goal.loop-place-init
 loop-place-init c = λ i e low here is. absurd (omega arith)

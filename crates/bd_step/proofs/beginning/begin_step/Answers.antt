@@ -4,19 +4,15 @@ use Rattle.bd_node.specs.declared.node.Node.{Node}
 use Rattle.bd_node.specs.Parts.{edges_of}
 use Rattle.bd_path.specs.declared.fetching.Fetched.{Fetched}
 use Rattle.bd_path.specs.Fetching.{AreOwn}
-use Rattle.bd_reclaim.specs.Pushing.{IsSplitFirst}
-use Rattle.bd_reclaim.proofs.Begins.{way_under, all_waited}
-use Rattle.bd_reclaim.proofs.pushing.push_step.Goals as goal
+use Rattle.bd_step.specs.Beginning.{IsSplitFirst}
+use Rattle.bd_step.proofs.Begins.{way_under, all_waited}
+use Rattle.bd_step.proofs.beginning.begin_step.Goals as goal
 
 pub step_from-requires-clause-under : goal.step_from-requires-clause-under
 step_from-requires-clause-under g c = way_under (g.S.NodeStore.table c.args.store.now) c.args.node.id (reverse c.args.above) c.requires.way
 
 pub returns-then-edges-lt-FULL_EDGES-clause-waited : goal.returns-then-edges-lt-FULL_EDGES-clause-waited
-returns-then-edges-lt-FULL_EDGES-clause-waited g c = all_waited (g.S.NodeStore.table c.args.store.now) c.args.node c.args.place c.step_from.result c.requires.cut c.step_from.ensures.due c.step_from.ensures.edge
-
-pub returns-then-edges-lt-FULL_EDGES-clause-few_visits : goal.returns-then-edges-lt-FULL_EDGES-clause-few_visits
-returns-then-edges-lt-FULL_EDGES-clause-few_visits g c =
-    omega (arith, c.step_from.ensures.few_visits, way_under (g.S.NodeStore.table c.args.store.now) c.args.node.id (reverse c.args.above) c.requires.way)
+returns-then-edges-lt-FULL_EDGES-clause-waited g c = all_waited (g.S.NodeStore.table c.args.store.now) c.args.node c.args.place c.step_from.result c.requires.pending c.step_from.ensures.due c.step_from.ensures.edge
 
 pub returns-clause-begins : goal.returns-clause-begins
 returns-clause-begins g c = record {

@@ -6,8 +6,8 @@ use Rattle.bd_path.specs.declared.fetching.Fetched.{Fetched}
 use Rattle.bd_node.specs.Tables.{Table}
 use Rattle.bd_path.specs.Fetching.{IsFetched, IsOwn}
 use Rattle.bd_path.specs.Raising.{IsWayUp}
-use Rattle.bd_reclaim.proofs.Begins.{popped_all, up_link, nothing_above, first_root, first_copied, first_below, first_further, copy_due, split_due, asked_here, asks_through, asks_plain}
-use Rattle.bd_reclaim.proofs.pushing.+split_first.Goals as goal
+use Rattle.bd_step.proofs.Begins.{popped_all, up_link, nothing_above, first_root, first_copied, first_below, first_further, copy_due, split_due, asked_here, asks_through, asks_plain}
+use Rattle.bd_step.proofs.beginning.+split_first.Goals as goal
 
 pub returns-in_default-clause-first : goal.returns-in_default-clause-first
 returns-in_default-clause-first t c = first_root c.args.above.items c.args.node (omega (arith, c.args.above.ok, c.in_default.ensures.cases.0))

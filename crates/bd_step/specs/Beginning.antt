@@ -1,4 +1,4 @@
--- Push steps: the one that begins at an edge.
+-- Steps that begin at an edge.
 use Rattle.std.specs.Prelude.{◌≢◌, ℕ, ◌≤◌, List, [], ◌∷◌, length, reverse}
 use Rattle.bd_limits.specs.Limits.{room_edges, full_edges}
 use Rattle.bd_node.specs.declared.node.Edge.{Edge}
@@ -35,24 +35,24 @@ pub data IsSplitFirst : List Fetched → Fetched → FlushStep → Type 0 where
 
 -- the step that begins at the edge at a place of a node, with the nodes above it: where the node has
 -- at most 14 edges, the one that is to be done at the edge or further down
-pub record IsPushStep (above : List Fetched) (node : Fetched) (place : ℕ) (step : FlushStep) : Type 0
+pub record BeginsAt (above : List Fetched) (node : Fetched) (place : ℕ) (step : FlushStep) : Type 0
   where
     pub narrow : length (edges_of node.node.value) ≤ room_edges → IsStepFrom node place step
     pub wide : full_edges ≤ length (edges_of node.node.value) → IsSplitFirst (reverse above) node step
 
 -- such a step is to be done, and how high the root is after it
-pub record IsPushFound (t : Table) (above : List Fetched) (node : Fetched) (place : ℕ) (u : Table)
+pub record IsFoundFrom (t : Table) (above : List Fetched) (node : Fetched) (place : ℕ) (u : Table)
     : Type 0 where
   pub step : FlushStep
-  pub begins : IsPushStep above node place step
+  pub begins : BeginsAt above node place step
   pub due : IsDue t step
   pub height : IsHighAfter t step u
 
 -- such a step is made, at an edge on the way down from the one at which it begins
-pub record IsPushMade (nodes : Nodes) (t : Table) (above : List Fetched) (node : Fetched)
+pub record IsMadeFrom (nodes : Nodes) (t : Table) (above : List Fetched) (node : Fetched)
     (place : ℕ) (new : Nodes) (u : Table) : Type 0 where
   pub step : FlushStep
-  pub begins : IsPushStep above node place step
+  pub begins : BeginsAt above node place step
   pub due : IsDue t step
   pub stands : IsStanding nodes t step
   pub reached : length (edges_of node.node.value) ≤ room_edges → IsReached nodes t node.id place step
@@ -62,10 +62,10 @@ pub record IsPushMade (nodes : Nodes) (t : Table) (above : List Fetched) (node :
 
 -- why no such step is made: a counter has to pass its last value for all that it adds, where the nodes
 -- may be known or not
-pub record IsWornPush (known : Type 0) (nodes : Nodes) (t : Table) (above : List Fetched)
+pub record IsWornFrom (known : Type 0) (nodes : Nodes) (t : Table) (above : List Fetched)
     (node : Fetched) (place : ℕ) (counter : Counter) : Type 0 where
   pub step : FlushStep
-  pub begins : IsPushStep above node place step
+  pub begins : BeginsAt above node place step
   pub due : IsDue t step
   pub way : IsWayOf t step
   pub stands : known → IsStanding nodes t step

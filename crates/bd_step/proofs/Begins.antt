@@ -11,10 +11,9 @@ use Rattle.bd_message.proofs.Causes.{cause_weaker}
 use Rattle.bd_message.specs.KeyMaps.{HasMapCause}
 use Rattle.bd_node.specs.declared.node.Edge.{Edge}
 use Rattle.bd_node.specs.declared.node.Node.{Node}
-use Rattle.bd_node.specs.Parts.{edges_of, end_at, IsEdgeAt}
+use Rattle.bd_node.specs.Parts.{edges_of, IsEdgeAt}
 use Rattle.bd_node.specs.Nodes.{buffer_size}
 use Rattle.bd_node.specs.Meaning.{Nodes}
-use Rattle.bd_node.specs.Shape.{IsPending}
 use Rattle.bd_node.specs.Tables.{Table, IsSound}
 use Rattle.bd_path.specs.declared.fetching.Fetched.{Fetched}
 use Rattle.bd_step.specs.declared.ways.FlushStep.{FlushStep}
@@ -25,17 +24,14 @@ use Rattle.bd_flush.specs.Children.{CanSplitChild}
 use Rattle.bd_path.specs.Raising.{IsWayUp}
 use Rattle.bd_path.specs.Raising.IsWayUp.{top, one_up}
 use Rattle.bd_path.specs.Flushed.{IsFlushed}
-use Rattle.bd_step.specs.Ways.{HasPending, IsUpToRoot, IsShared, IsDue, IsWaited, IsFromEdge, IsStepFrom, IsStanding, IsReached, IsWayOf, IsWayThere}
+use Rattle.bd_step.specs.Ways.{HasPending, HasPendingAt, IsUpToRoot, IsShared, IsDue, IsWaited, IsFromEdge, IsStepFrom, IsStanding, IsReached, IsWayOf, IsWayThere}
 use Rattle.bd_step.specs.Steps.{IsFlushMade, IsHighAfter, IsWornStep}
 use Rattle.bd_step.proofs.Making.{worn_known}
 use Rattle.bd_node.proofs.Parts.{edge_within}
 use Rattle.bd_flush.proofs.RootSplits.{up_lower}
 use Rattle.bd_step.proofs.Waiting.{fullest_waits, pending_waits}
-use Rattle.bd_cover.proofs.Decisions.{as_reclaimed}
-use Rattle.bd_cover.specs.Covering.{HasCut}
-use Rattle.bd_cover.specs.Reclaimed.{IsReclaimed}
-use Rattle.bd_reclaim.specs.Pushing.{IsSplitFirst, IsPushStep, IsPushFound, IsPushMade, IsWornPush}
-use Rattle.bd_reclaim.specs.Pushing.IsSplitFirst.{at_root, asked_through, below, further}
+use Rattle.bd_step.specs.Beginning.{IsSplitFirst, BeginsAt, IsFoundFrom, IsMadeFrom, IsWornFrom}
+use Rattle.bd_step.specs.Beginning.IsSplitFirst.{at_root, asked_through, below, further}
 
 -- ---- the edge that asks a child
 
@@ -46,6 +42,13 @@ asks_it (Some x) c h = ap (λ (i : ℕ). Some i) (eqb-true x c h)
 asks_other : (o : Option ℕ) (c : ℕ) → option_eq nat_eq o (Some c) ≡ false → o ≡ Some c → ⊥
 asks_other None c h same = absurd (none-some c same)
 asks_other (Some x) c h same = false≢true (sym h ∙ eq-eqb x c (same_Some x c same))
+
+-- a place among the edges as they are read
+pub place_low : (n : Node) (es : List Edge) (place : ℕ) → es ≡ edges_of n → place < length es → place < length (edges_of n)
+place_low n es place same low = subst (λ (l : List Edge). place < length l) same low
+
+pub past_all : (n : Node) (es : List Edge) (place : ℕ) → es ≡ edges_of n → length es ≤ place → length (edges_of n) ≤ place
+past_all n es place same high = subst (λ (l : List Edge). length l ≤ place) same high
 
 -- no edge before a place asks the child
 abbrev pub NoneAsks : Node → ℕ → ℕ → Type 0
@@ -84,7 +87,7 @@ pub record IsUpLink (t : Table) (p node : Fetched) (rest : List Fetched) : Type 
   pub once : t.count node.id ≡ 1
   pub up : IsWayUp t p.id rest
 
-link_of : (t : Table) (p node : Fetched) (rest : List Fetched) (c : ℕ) → c ≡ node.id → IsWayUp t c (p ∷ rest) → IsUpLink t p node rest
+pub link_of : (t : Table) (p node : Fetched) (rest : List Fetched) (c : ℕ) → c ≡ node.id → IsWayUp t c (p ∷ rest) → IsUpLink t p node rest
 link_of t p node rest _ same (one_up c place _ e _ fetched way once up) = record {
   fetched = fetched;
   place = place;
@@ -178,60 +181,51 @@ split_due t old new p node place h plain room wide fetched way =
 -- ---- messages wait where a step goes down
 
 -- at the edge at which a step begins, and at one further down
-edge_waited : (t : Table) (node : Fetched) (from : ℕ) (p : Fetched) (place : ℕ) → HasCut node.node.value from → IsFetched t p → IsFromEdge node from p place → (e : Edge) → IsEdgeAt p.node.value place e → HasPending p.node.value place e
-edge_waited t node from p place cut fetched from_edge e here =
+edge_waited : (t : Table) (node : Fetched) (from : ℕ) (p : Fetched) (place : ℕ) → HasPendingAt node.node.value from → IsFetched t p → IsFromEdge node from p place → (e : Edge) → IsEdgeAt p.node.value place e → HasPending p.node.value place e
+edge_waited t node from p place waits fetched from_edge e here =
     elim from_edge [
       | inl own ↦
-          let at_cut : IsEdgeAt node.node.value from e = subst (λ (x : Fetched). IsEdgeAt x.node.value from e) own.0 (subst (λ (i : ℕ). IsEdgeAt p.node.value i e) own.1 here) in
-          let same : cut.edge ≡ e = same_Some cut.edge e (sym cut.here ∙ at_cut) in
-          let there : HasPending node.node.value from e = record {
-            index = cut.cut.at;
-            message = cut.cut.message;
-            there = cut.cut.there;
-            pending = subst (λ (x : Edge). IsPending cut.cut.at cut.cut.message x (end_at node.node.value from)) same cut.cut.pending;
-          } in
+          let at_it : IsEdgeAt node.node.value from e = subst (λ (x : Fetched). IsEdgeAt x.node.value from e) own.0 (subst (λ (i : ℕ). IsEdgeAt p.node.value i e) own.1 here) in
+          let same : waits.edge ≡ e = same_Some waits.edge e (sym waits.here ∙ at_it) in
+          let there : HasPending node.node.value from e = subst (λ (x : Edge). HasPending node.node.value from x) same waits.pending in
           subst (λ (i : ℕ). HasPending p.node.value i e) (sym own.1) (subst (λ (x : Fetched). HasPending x.node.value from e) (sym own.0) there)
       | inr more ↦
           let some : 1 ≤ buffer_size p.node.value = omega (arith, more.full) in
           fullest_waits p.node.value fetched.own.shape some place more.fullest e here
     ]
 
-step_waited : (t : Table) (node : Fetched) (from : ℕ) (step : FlushStep) → HasCut node.node.value from → IsDue t step → IsStepFrom node from step → IsWaited step
-step_waited t node from (SplitRoot root) cut due at = tt
-step_waited t node from (At site (Split child)) cut due at = tt
-step_waited t node from (At site (Push child)) cut due at = λ e here.
-    pending_waits site.parent.node.value site.place e (edge_waited t node from site.parent site.place cut due.0.parent_is at e here)
-step_waited t node from (At site Privatise) cut due at = tt
-step_waited t node from (At site (Carve index)) cut due at = tt
+step_waited : (t : Table) (node : Fetched) (from : ℕ) (step : FlushStep) → HasPendingAt node.node.value from → IsDue t step → IsStepFrom node from step → IsWaited step
+step_waited t node from (SplitRoot root) waits due at = tt
+step_waited t node from (At site (Split child)) waits due at = tt
+step_waited t node from (At site (Push child)) waits due at = λ e here.
+    pending_waits site.parent.node.value site.place e (edge_waited t node from site.parent site.place waits due.0.parent_is at e here)
+step_waited t node from (At site Privatise) waits due at = tt
+step_waited t node from (At site (Carve index)) waits due at = tt
 
-pub all_waited : {E : Type 0} (t : Table) (node : Fetched) (from : ℕ) (r : Result FlushStep E) → HasCut node.node.value from → IfOk r (IsDue t) → IfOk r (IsStepFrom node from) → IfOk r IsWaited
-all_waited t node from (Ok step) cut due at = step_waited t node from step cut due at
-all_waited t node from (Err e) cut due at = tt
+pub all_waited : {E : Type 0} (t : Table) (node : Fetched) (from : ℕ) (r : Result FlushStep E) → HasPendingAt node.node.value from → IfOk r (IsDue t) → IfOk r (IsStepFrom node from) → IfOk r IsWaited
+all_waited t node from (Ok step) waits due at = step_waited t node from step waits due at
+all_waited t node from (Err e) waits due at = tt
 
--- ---- what a push leaves
+-- ---- what such a step leaves
 
 -- a step that was found in nodes, and what became of them
-pub record IsPushing (nodes mid : Nodes) (t m : Table) (above : List Fetched) (node : Fetched) (place : ℕ) (step : FlushStep) : Type 0 where
+pub record IsBeginning (nodes mid : Nodes) (t m : Table) (above : List Fetched) (node : Fetched) (place : ℕ) (step : FlushStep) : Type 0 where
   pub nodes_are : mid ≡ nodes
   pub table_is : m ≡ t
   pub sound : IsSound nodes t
   pub due : IsDue t step
-  pub begins : IsPushStep above node place step
+  pub begins : BeginsAt above node place step
   pub stands : IsStanding nodes t step
   pub reached : length (edges_of node.node.value) ≤ 14 → IsReached nodes t node.id place step
 
-sound_again : (nodes mid : Nodes) (t m : Table) → mid ≡ nodes → m ≡ t → IsSound nodes t → IsSound mid m
+pub sound_again : (nodes mid : Nodes) (t m : Table) → mid ≡ nodes → m ≡ t → IsSound nodes t → IsSound mid m
 sound_again nodes mid t m same table sound = subst (λ (v : Table). IsSound mid v) (sym table) (subst (λ (f : Nodes). IsSound f t) (sym same) sound)
 
 flushed_so : (nodes mid : Nodes) (t m : Table) (new : Nodes) (u : Table) → mid ≡ nodes → m ≡ t → IsFlushed mid m new u → IsFlushed nodes t new u
 flushed_so nodes mid t m new u same table h = subst (λ (v : Table). IsFlushed nodes v new u) table (subst (λ (f : Nodes). IsFlushed f m new u) same h)
 
-push_reclaimed : (nodes mid : Nodes) (t m : Table) (new : Nodes) (u : Table) → mid ≡ nodes → m ≡ t → IsSound nodes t → (IsSound mid m → IsFlushed mid m new u) → IsReclaimed nodes t new u
-push_reclaimed nodes mid t m new u same table sound flushed =
-    as_reclaimed nodes t new u (flushed_so nodes mid t m new u same table (flushed (sound_again nodes mid t m same table sound)))
-
-push_made : (nodes mid : Nodes) (t m : Table) (new : Nodes) (u : Table) (above : List Fetched) (node : Fetched) (place : ℕ) (step : FlushStep) → IsPushing nodes mid t m above node place step → (IsSound mid m → IsFlushMade mid m step new u) → IsHighAfter m step u → (IsSound mid m → IsFlushed mid m new u) → IsPushMade nodes t above node place new u
-push_made nodes mid t m new u above node place step h made height flushed =
+begun_made : (nodes mid : Nodes) (t m : Table) (new : Nodes) (u : Table) (above : List Fetched) (node : Fetched) (place : ℕ) (step : FlushStep) → IsBeginning nodes mid t m above node place step → (IsSound mid m → IsFlushMade mid m step new u) → IsHighAfter m step u → (IsSound mid m → IsFlushed mid m new u) → IsMadeFrom nodes t above node place new u
+begun_made nodes mid t m new u above node place step h made height flushed =
     let again : IsSound mid m = sound_again nodes mid t m h.nodes_are h.table_is h.sound in
     record {
       step = step;
@@ -254,24 +248,24 @@ way_again nodes mid t m step same table h = subst (λ (v : Table). IsWayThere mi
 pub sound_before : (nodes mid : Nodes) (t m : Table) → mid ≡ nodes → m ≡ t → IsSound mid m → IsSound nodes t
 sound_before nodes mid t m same table sound = subst (λ (f : Nodes). IsSound f t) same (subst (λ (v : Table). IsSound mid v) table sound)
 
--- ---- what a push gives
+-- ---- what is said of it
 
-pub push_on_ok : {T E : Type 0} (nodes mid : Nodes) (t m : Table) (new : Nodes) (u : Table) (r : Result T E) → mid ≡ nodes → m ≡ t → IsSound nodes t → (IsSound mid m → OnOk r (IsFlushed mid m new u)) → OnOk r (IsReclaimed nodes t new u)
-push_on_ok nodes mid t m new u (Ok x) same table sound flushed = push_reclaimed nodes mid t m new u same table sound flushed
-push_on_ok nodes mid t m new u (Err e) same table sound flushed = tt
+pub begun_on_ok : {T E : Type 0} (nodes mid : Nodes) (t m : Table) (new : Nodes) (u : Table) (r : Result T E) → mid ≡ nodes → m ≡ t → IsSound nodes t → (IsSound mid m → OnOk r (IsFlushed mid m new u)) → OnOk r (IsFlushed nodes t new u)
+begun_on_ok nodes mid t m new u (Ok x) same table sound flushed = flushed_so nodes mid t m new u same table (flushed (sound_again nodes mid t m same table sound))
+begun_on_ok nodes mid t m new u (Err e) same table sound flushed = tt
 
-pub push_on_made : {T E : Type 0} (nodes mid : Nodes) (t m : Table) (new : Nodes) (u : Table) (above : List Fetched) (node : Fetched) (place : ℕ) (step : FlushStep) (r : Result T E) → IsPushing nodes mid t m above node place step → (IsSound mid m → OnOk r (IsFlushMade mid m step new u)) → OnOk r (IsHighAfter m step u) → (IsSound mid m → OnOk r (IsFlushed mid m new u)) → OnOk r (IsPushMade nodes t above node place new u)
-push_on_made nodes mid t m new u above node place step (Ok x) h made height flushed = push_made nodes mid t m new u above node place step h made height flushed
-push_on_made nodes mid t m new u above node place step (Err e) h made height flushed = tt
+pub begun_on_made : {T E : Type 0} (nodes mid : Nodes) (t m : Table) (new : Nodes) (u : Table) (above : List Fetched) (node : Fetched) (place : ℕ) (step : FlushStep) (r : Result T E) → IsBeginning nodes mid t m above node place step → (IsSound mid m → OnOk r (IsFlushMade mid m step new u)) → OnOk r (IsHighAfter m step u) → (IsSound mid m → OnOk r (IsFlushed mid m new u)) → OnOk r (IsMadeFrom nodes t above node place new u)
+begun_on_made nodes mid t m new u above node place step (Ok x) h made height flushed = begun_made nodes mid t m new u above node place step h made height flushed
+begun_on_made nodes mid t m new u above node place step (Err e) h made height flushed = tt
 
-pub push_on_found : {T E : Type 0} (t m u : Table) (above : List Fetched) (node : Fetched) (place : ℕ) (step : FlushStep) (r : Result T E) → m ≡ t → IsPushStep above node place step → IsDue t step → OnOk r (IsHighAfter m step u) → OnOk r (IsPushFound t above node place u)
-push_on_found t m u above node place step (Ok x) table begins due height = record { step = step; begins = begins; due = due; height = subst (λ (v : Table). IsHighAfter v step u) table height }
-push_on_found t m u above node place step (Err e) table begins due height = tt
+pub begun_on_found : {T E : Type 0} (t m u : Table) (above : List Fetched) (node : Fetched) (place : ℕ) (step : FlushStep) (r : Result T E) → m ≡ t → BeginsAt above node place step → IsDue t step → OnOk r (IsHighAfter m step u) → OnOk r (IsFoundFrom t above node place u)
+begun_on_found t m u above node place step (Ok x) table begins due height = record { step = step; begins = begins; due = due; height = subst (λ (v : Table). IsHighAfter v step u) table height }
+begun_on_found t m u above node place step (Err e) table begins due height = tt
 
 -- a fault of the step that is made, after the one before went well
-pub push_cause : {T : Type 0} (before mid now : ℕ) (last : Bool) (bad : ℕ → Type 0) (known again : Type 0) (nodes mids : Nodes) (t m : Table) (above : List Fetched) (node : Fetched) (place : ℕ) (step : FlushStep) (r : Result T MapFault) → mid ≡ before → m ≡ t → (known → again × (mids ≡ nodes)) → IsPushStep above node place step → IsDue t step → IsWayOf t step
-    → (known → IsStanding nodes t step) → (known → length (edges_of node.node.value) ≤ 14 → IsReached nodes t node.id place step) → HasMapCause mid now last bad (IsWornStep again mids m step) r → HasMapCause before now last bad (IsWornPush known nodes t above node place) r
-push_cause before mid now last bad known again nodes mids t m above node place step r same table knows begins due way stands reached cause =
-    cause_weaker before now last bad (IsWornStep known nodes t step) (IsWornPush known nodes t above node place)
+pub begun_cause : {T : Type 0} (before mid now : ℕ) (last : Bool) (bad : ℕ → Type 0) (known again : Type 0) (nodes mids : Nodes) (t m : Table) (above : List Fetched) (node : Fetched) (place : ℕ) (step : FlushStep) (r : Result T MapFault) → mid ≡ before → m ≡ t → (known → again × (mids ≡ nodes)) → BeginsAt above node place step → IsDue t step → IsWayOf t step
+    → (known → IsStanding nodes t step) → (known → length (edges_of node.node.value) ≤ 14 → IsReached nodes t node.id place step) → HasMapCause mid now last bad (IsWornStep again mids m step) r → HasMapCause before now last bad (IsWornFrom known nodes t above node place) r
+begun_cause before mid now last bad known again nodes mids t m above node place step r same table knows begins due way stands reached cause =
+    cause_weaker before now last bad (IsWornStep known nodes t step) (IsWornFrom known nodes t above node place)
     (λ counter worn. record { step = step; begins = begins; due = due; way = way; stands = stands; reached = reached; worn = worn }) r
     (worn_known before mid now last bad known again nodes mids t m step r same table knows cause)
