@@ -2,14 +2,10 @@
 //! device in memory, and compares what each call writes with what its row says, or shows it.
 #![tactic(auto)]
 
-mod bench;
-mod blocks;
-mod braces;
-mod ends;
-mod plan;
-mod told;
+mod program;
 
-use bench::{Bench, Counts};
+use program::Betr;
+use rows_bench::{Bench, Counts};
 use std::process::ExitCode;
 use std::{env, fs, io};
 
@@ -70,7 +66,7 @@ fn run_text<'t>(
     bench: Bench<'t>,
 ) -> io::Result<Counts> {
     let mut bench = bench;
-    bench.read(text)?;
+    bench.read::<Betr>(text)?;
     tell(rt, name, &bench)
 }
 

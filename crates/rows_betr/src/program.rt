@@ -1,64 +1,36 @@
-//! A call, and what is told of it.
+//! The calls of the program, for rows.
 
-use crate::ends::{KeepingSink, ScriptSource};
-use crate::plan::Plan;
 use bd_calls::{row, run};
 use bd_device::{Device, FaultyDevice, FuseDevice, MemDevice};
 use bd_io::MemSink;
 use bd_shell::Ack;
+use rows_bench::{KeepingSink, Plan, Program, ScriptSource, Told};
 use std::alloc::{AllocError, Global};
 use std::cell::Cell;
-
-/// What is told of a call.
-pub struct Told {
-    /// Its status.
-    pub status: u64,
-    /// How many calls of the device it made.
-    pub calls: u64,
-    /// How many of them failed.
-    pub faults: u64,
-    /// The counts that it acknowledged, or `none`.
-    pub acks: String,
-    /// How many bytes its sink had passed on at each take, and at the end.
-    pub passed: String,
-    /// What it wrote.
-    pub written: String,
-}
-
-// Written out, so that a drop is one call.
-impl Drop for Told {
-    fn drop(self) {
-        let Told {
-            status: _,
-            calls: _,
-            faults: _,
-            acks: _,
-            passed: _,
-            written: _,
-        } = self;
-    }
-}
 
 /// How many bytes there is room for where an image is made.
 const ROOM: usize = 1 << 10;
 
-/// Makes an image of so many slots on a device.
-pub fn format(alloc: Global, dev: &mut MemDevice, slots: &str) -> Result<(), AllocError> {
-    let words = Plan::new("betr format img", slots, 0).words(alloc)?;
-    let mut sink = MemSink::new(alloc, ROOM, &[])?;
-    let _outcome = row(alloc, dev, &words, b"", &mut sink)?;
-    Ok(())
-}
+/// The program, over a device in memory.
+pub struct Betr;
 
-/// Makes a call over a device, of which these calls fail.
-pub fn call(
-    alloc: Global,
-    dev: &mut MemDevice,
-    plan: &Plan<'_>,
-    script: &[u8],
-) -> Result<Told, AllocError> {
-    let words = plan.words(alloc)?;
-    call_words(alloc, dev, plan, &words, script)
+impl Program for Betr {
+    fn format(alloc: Global, dev: &mut MemDevice, slots: &str) -> Result<(), AllocError> {
+        let words = Plan::new("betr format img", slots, 0).words(alloc)?;
+        let mut sink = MemSink::new(alloc, ROOM, &[])?;
+        let _outcome = row(alloc, dev, &words, b"", &mut sink)?;
+        Ok(())
+    }
+
+    fn call(
+        alloc: Global,
+        dev: &mut MemDevice,
+        plan: &Plan<'_>,
+        script: &[u8],
+    ) -> Result<Told, AllocError> {
+        let words = plan.words(alloc)?;
+        call_words(alloc, dev, plan, &words, script)
+    }
 }
 
 /// Makes a call with these words.

@@ -3,7 +3,7 @@
 use crate::blocks::{block_in, blocks_of, copied, flip_byte, front, set_bytes, zeros};
 use crate::braces::expand;
 use crate::plan::{Plan, number_before};
-use crate::told::{Told, call, format};
+use crate::told::{Program, Told};
 use bd_device::{Device, MemDevice};
 use std::alloc::{AllocError, Global};
 
@@ -122,25 +122,25 @@ impl<'t> Bench<'t> {
     }
 
     /// Runs the rows of a text.
-    pub fn read(&mut self, text: &'t str) -> Result<(), AllocError> {
+    pub fn read<P: Program>(&mut self, text: &'t str) -> Result<(), AllocError> {
         for line in text.split("\n") {
             self.line = self.line.saturating_add(1);
-            self.read_line(line)?;
+            self.read_line::<P>(line)?;
         }
-        self.end_row()
+        self.end_row::<P>()
     }
 
     /// Takes a line: a label, a directive, a line of a script, or one that is written. Empty lines
     /// are left out.
-    fn read_line(&mut self, line: &'t str) -> Result<(), AllocError> {
+    fn read_line<P: Program>(&mut self, line: &'t str) -> Result<(), AllocError> {
         if line.is_empty() {
             return Ok(());
         }
         if let Some(label) = line.strip_prefix("# ") {
-            return self.begin_row(label);
+            return self.begin_row::<P>(label);
         }
         if let Some(text) = line.strip_prefix("-- ") {
-            return self.direct(text);
+            return self.direct::<P>(text);
         }
         if let Some(text) = line.strip_prefix(">") {
             self.want_plan();
@@ -150,8 +150,8 @@ impl<'t> Bench<'t> {
     }
 
     /// Begins a row: a new image on a device of its own.
-    fn begin_row(&mut self, label: &'t str) -> Result<(), AllocError> {
-        self.end_row()?;
+    fn begin_row<P: Program>(&mut self, label: &'t str) -> Result<(), AllocError> {
+        self.end_row::<P>()?;
         self.label = label;
         self.counts.rows = self.counts.rows.saturating_add(1);
         self.begin_device(blocks_of(SLOTS), Some(SLOTS));
@@ -166,8 +166,8 @@ impl<'t> Bench<'t> {
     }
 
     /// Ends a row.
-    fn end_row(&mut self) -> Result<(), AllocError> {
-        self.end_call()?;
+    fn end_row<P: Program>(&mut self) -> Result<(), AllocError> {
+        self.end_call::<P>()?;
         if self.is_wrong {
             self.counts.failed = self.counts.failed.saturating_add(1);
         }
@@ -197,10 +197,10 @@ impl<'t> Bench<'t> {
     }
 
     /// Does what a directive says.
-    fn direct(&mut self, text: &'t str) -> Result<(), AllocError> {
+    fn direct<P: Program>(&mut self, text: &'t str) -> Result<(), AllocError> {
         let (name, rest) = text.split_once(" ").unwrap_or((text, ""));
         if let Some(plan) = Plan::begun(name, rest, self.line) {
-            self.end_call()?;
+            self.end_call::<P>()?;
             self.plan = Some(plan);
             return Ok(());
         }
@@ -211,8 +211,8 @@ impl<'t> Bench<'t> {
         if self.say(name, rest) {
             return Ok(());
         }
-        self.end_call()?;
-        if !self.shape(name, rest) && !self.change(name, rest)? && !self.compare(name, rest)? {
+        self.end_call::<P>()?;
+        if !self.shape(name, rest) && !self.change::<P>(name, rest)? && !self.compare(name, rest)? {
             return self.differ(self.line, "a directive", text);
         }
         Ok(())
@@ -258,27 +258,27 @@ impl<'t> Bench<'t> {
     }
 
     /// Makes the row's device, where it isn't there yet.
-    fn make(&mut self) -> Result<(), AllocError> {
+    fn make<P: Program>(&mut self) -> Result<(), AllocError> {
         if self.is_made {
             return Ok(());
         }
         self.is_made = true;
         self.dev = zeros(self.alloc, self.blocks)?;
         match self.slots {
-            Some(slots) => self.make_image(slots),
+            Some(slots) => self.make_image::<P>(slots),
             None => Ok(()),
         }
     }
 
     /// Makes an image of so many slots.
-    fn make_image(&mut self, slots: u64) -> Result<(), AllocError> {
+    fn make_image<P: Program>(&mut self, slots: u64) -> Result<(), AllocError> {
         let slots = format!(in self.alloc; "{slots}")?;
-        format(self.alloc, &mut self.dev, slots.as_str())
+        P::format(self.alloc, &mut self.dev, slots.as_str())
     }
 
     /// Changes the device. Whether the directive is one that does.
-    fn change(&mut self, name: &str, rest: &str) -> Result<bool, AllocError> {
-        self.make()?;
+    fn change<P: Program>(&mut self, name: &str, rest: &str) -> Result<bool, AllocError> {
+        self.make::<P>()?;
         match name {
             "keep" => self.kept = copied(self.alloc, &mut self.dev)?,
             "back" => self.dev = copied(self.alloc, &mut self.kept)?,
@@ -391,13 +391,13 @@ impl<'t> Bench<'t> {
     }
 
     /// Makes the call that was read, if there is one, and compares or shows what it did.
-    fn end_call(&mut self) -> Result<(), AllocError> {
+    fn end_call<P: Program>(&mut self) -> Result<(), AllocError> {
         let Some(plan) = self.plan else {
             return Ok(());
         };
         self.plan = None;
-        self.make()?;
-        let told = call(self.alloc, &mut self.dev, &plan, self.script.as_bytes())?;
+        self.make::<P>()?;
+        let told = P::call(self.alloc, &mut self.dev, &plan, self.script.as_bytes())?;
         if let Some(torn) = plan.torn {
             self.dev.crash(torn);
         }
