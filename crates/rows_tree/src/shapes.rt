@@ -2,7 +2,6 @@
 //! many new ids in the last call), `walk VISITS` (of the last graft), `visits COUNT`, `size BYTES`
 //! (what waits in the root), `edges COUNT` (of the root), `together KEY KEY` and `apart KEY KEY`
 //! (the root asks the same child for them, or not), `step LIMIT` (a step of a flush is made),
-//! `settles PREFIX` and `settled PREFIX` (a step for what waits for a prefix is made, or none),
 //! `gotos LEAST` (so many nodes below the root in which a Goto waits), `stays LIMIT LEAST` (a
 //! flush, each step of which leaves the shared nodes as they were, so many in all), and `hold`,
 //! `held COUNT` (so many messages wait in the root that is held) and `release`.
@@ -24,7 +23,6 @@ pub fn run(machine: &mut Machine, words: &[&str; WORDS]) -> Result<bool, Stop> {
         "edges" => edges(machine, words)?,
         "together" | "apart" => children(machine, words)?,
         "step" => ensure(machine.tree.flush_step(number(words[1])? as usize)?)?,
-        "settles" | "settled" => settle(machine, words)?,
         "gotos" => gotos(machine, words)?,
         "stays" => stays(machine, words)?,
         "hold" => machine.held = Some(root_of(&mut machine.tree)?),
@@ -107,12 +105,6 @@ fn children(machine: &mut Machine, words: &[&str; WORDS]) -> Result<(), Stop> {
     let root = root_of(&mut machine.tree)?;
     let child = child_of(&root, &first);
     ensure(child.is_some() && (child == child_of(&root, &second)) == (words[0] == "together"))
-}
-
-/// A step for what waits for a prefix is made, or none.
-fn settle(machine: &mut Machine, words: &[&str; WORDS]) -> Result<(), Stop> {
-    let prefix = bytes(machine.alloc, words[1])?;
-    ensure(machine.tree.settle_step(&prefix)? == (words[0] == "settles"))
 }
 
 /// In so many nodes below the root a Goto waits, or in more.
