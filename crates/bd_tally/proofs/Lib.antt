@@ -1,0 +1,5 @@
+pub mod IdLemmas
+pub mod CountLemmas
+pub mod Searching
+pub mod Wrongs
+pub mod Seeing
