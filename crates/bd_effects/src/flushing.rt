@@ -54,7 +54,7 @@ pub fn flush<S: NodeStore>(
     }
 }
 
-/// Up to how many bytes that wait in the root a command flushes nothing.
+/// Up to how many bytes that wait in the root a command makes no flush step from there.
 pub fn waiting_limit(command: &Command) -> usize
     ensures { result ≡ waiting_limit command.now }
 {
