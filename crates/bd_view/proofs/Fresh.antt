@@ -1,5 +1,5 @@
 -- The view of a new image.
-use Rattle.std.proofs.Common.{◌≡◌, ℕ, zero, suc, ◌-◌, ◌≤◌, List, [], ◌∷◌, drop, Some, None, refl, ap, ◌∙◌, lit≤, arith, inl, inr}
+use Rattle.std.proofs.Common.{◌≡◌, ℕ, zero, suc, ◌-◌, ◌≤◌, List, [], drop, Some, None, refl, ap, ◌∙◌, lit≤, arith, inl, inr}
 use Rattle.std.specs.Prelude.{length}
 use Rattle.std.specs.List.{sum_by}
 use Rattle.std.proofs.lemmas.Bool.{cases_Bool, cond-true, cond-false}
