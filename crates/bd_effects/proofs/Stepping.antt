@@ -1,5 +1,5 @@
 -- A flush step of a command: one from the root, or one for a graft's source.
-use Rattle.std.proofs.Common.{◌≡◌, ℕ, ◌<◌, ◌≤◌, Bool, true, false, List, Option, Some, inl, inr}
+use Rattle.std.proofs.Common.{◌≡◌, ℕ, ◌<◌, ◌≤◌, Bool, true, false, List, Some, inl, inr}
 use Rattle.std.specs.Prelude.{◌↔◌, Result, Ok}
 use Rattle.std.proofs.lemmas.Bool.{cases_lt}
 use Rattle.bd_command.specs.declared.Command.{Command}
@@ -18,6 +18,10 @@ use Rattle.bd_view.specs.Trees.IsWornToStep.{worn_at_root, worn_at_source}
 pub more_waits : {E : Type 0} (r : Result Bool E) (size limit : ℕ) → (r ≡ Ok false → ⊥) → ((r ≡ Ok false) ↔ (size ≤ limit)) → limit < size
 more_waits r size limit needed enough =
     elim (cases_lt limit size) [ inl many ↦ many | inr few ↦ absurd (needed (enough.1 few)) ]
+
+-- and so is one that is made
+pub made_waits : {E : Type 0} (r : Result Bool E) (size limit : ℕ) → r ≡ Ok true → ((r ≡ Ok false) ↔ (size ≤ limit)) → limit < size
+made_waits r size limit is enough = more_waits r size limit (λ no. cc) enough
 
 -- why it is refused
 pub root_cause : {T : Type 0} (before now : ℕ) (last : Bool) (bad : ℕ → Type 0) (known : Type 0) (nodes : Nodes) (t : Table) (c : Command) (r : Result T MapFault) → waiting_limit c < t.size → HasMapCause before now last bad (IsWornToFlush known nodes t) r → HasMapCause before now last bad (IsWornToStep known nodes t c) r
