@@ -1,6 +1,10 @@
 -- What the call does to the tree it does to the engine.
-use Rattle.std.proofs.Common.{refl, subst}
+use Rattle.std.proofs.Common.{◌≡◌, true, refl, subst}
+use Rattle.std.specs.Prelude.{Ok}
 use Rattle.bd_message.specs.KeyMaps.{SameAt}
+use Rattle.bd_pager.specs.Pagers.{table_of}
+use Rattle.bd_shown.specs.Shown.{tree_of}
+use Rattle.bd_view.specs.Trees.{FlushesFor, IsStepFound}
 use Rattle.bd_view.proofs.Standing.{step_flushed}
 use Rattle.bd_engine.specs.Engines.{EngineState, seen, keys_of, IsSoundOn, HasCause, IsWornIn, IsReadOn, OnlyNodesOn}
 use Rattle.bd_engine.proofs.Left.{kept_standing, only_nodes_on, paged_at, read_on, read_keeps_sound, flush_sound, flush_same, not_counted}
@@ -24,6 +28,19 @@ returns-clause-cause g c =
     let i = c.self.inside in
     subst (λ (e : EngineState g.row.D.Denot). HasCause g.D.Device e.pager c.flush-flushed.new.tree.store (IsWornIn g.D.Device e.pager c.args.command.now) c.flush-flushed.result) c.self.view_is
     (c.flush-flushed.ensures.cause)
+
+pub returns-clause-found : goal.returns-clause-found
+returns-clause-found g c =
+    subst (λ (e : EngineState g.row.D.Denot). c.flush-flushed.result ≡ Ok true → IsStepFound c.args.command.now (table_of e.pager) (table_of c.flush-flushed.new.tree.store)) c.self.view_is c.flush-flushed.ensures.found
+
+pub returns-clause-flushes : goal.returns-clause-flushes
+returns-clause-flushes g c =
+    subst (λ (e : EngineState g.row.D.Denot). IsSoundOn g.D.Device e → c.flush-flushed.result ≡ Ok true → FlushesFor c.args.command.now (tree_of g.D.Device e.pager e.walk) (tree_of g.D.Device c.flush-flushed.new.tree.store c.flush-flushed.new.tree.walk)) c.self.view_is
+    (λ s is. record {
+      writing = c.requires.writes;
+      step = c.flush-flushed.ensures.step s.known s.sound is;
+      walk_is = c.flush-flushed.ensures.walk;
+    })
 
 pub returns-clause-rest : goal.returns-clause-rest
 returns-clause-rest g c = λ no.
