@@ -1,8 +1,8 @@
 -- What a plan that is carried out makes of a map and of the tree that it represents.
-use Rattle.std.proofs.Common.{rules, ◌≡◌, ℕ, ◌+◌, ◌/◌, ◌≤◌, arith, List, [], ◌∷◌, Bool, false, not, cond, ◌++◌, refl, sym, ap, subst, ◌∙◌}
+use Rattle.std.proofs.Common.{rules, ◌≡◌, ℕ, ◌/◌, List, [], ◌∷◌, Bool, false, not, cond, ◌++◌, refl, sym, ap, subst, ◌∙◌}
 use Rattle.std.specs.Option.{unwrap_or}
 use Rattle.std.specs.Prelude.{nat_lt, Option, Some, None, IsNone, Result, Err, OnErr, ◌&&◌, IsTrue}
-use Rattle.bd_limits.specs.Limits.{key_limit, block_limit}
+use Rattle.bd_limits.specs.Limits.{block_limit}
 use Rattle.bd_command.specs.Command.{writes}
 use Rattle.bd_command.specs.declared.Command.{Command}
 use Rattle.bd_command.specs.declared.Command.TheVariants.{Mkdir, Create, Write, Truncate, Remove, Rename, Clone, Chmod, Read, Stat, List as Ls}
@@ -14,8 +14,6 @@ use Rattle.std.specs.FinMap.{get}
 use Rattle.bd_model.specs.Step.{step, stepped, refusal_of, changed, answer, mode_at}
 use Rattle.bd_model.proofs.TreeLaws.{after-reading}
 use Rattle.bd_message.specs.declared.message.Message.{Message}
-use Rattle.bd_message.specs.declared.message.Message.TheVariants.{Put, Del, Patch, Cut, Goto}
-use Rattle.bd_message.specs.Messages.{IsMessage, size}
 use Rattle.bd_message.specs.Effect.{acts, no_nodes, begins, rest}
 use Rattle.bd_message.specs.KeyMaps.{At, SameAt, IsApplied, IsGrafted, grafted}
 use Rattle.bd_represent.specs.EntryKeys.{block_key}

@@ -1,5 +1,5 @@
 -- That the messages of a plan have room.
-use Rattle.std.proofs.Common.{ℕ, ◌+◌, ◌≤◌, arith, List}
+use Rattle.std.proofs.Common.{◌+◌, ◌≤◌, arith, List}
 use Rattle.std.specs.Prelude.{slice_index_or}
 use Rattle.std.proofs.lemmas.List.Sums.{sum_by-le}
 use Rattle.bd_limits.specs.Limits.{key_limit, block_limit, late_limit}

@@ -1,8 +1,7 @@
 -- What calls leave of an engine, and what then holds.
-use Rattle.std.proofs.Common.{◌≡◌, ℕ, ◌<◌, ◌≤◌, inl, inr, length, Option, List, Bool, true, false, refl, sym, subst, ap, ◌∙◌}
-use Rattle.std.specs.Prelude.{◌≢◌, ◌↔◌, Result, Ok, Err, OnOk, OnErr}
+use Rattle.std.proofs.Common.{◌≡◌, ℕ, length, Option, List, Bool, true, false, refl, sym, subst, ap, ◌∙◌}
+use Rattle.std.specs.Prelude.{◌≢◌, Result, Ok, Err, OnOk, OnErr}
 use Rattle.std.specs.List.{concat}
-use Rattle.std.proofs.lemmas.Bool.{cases_lt}
 use Rattle.bd_device.specs.Blocks.{Image}
 use Rattle.bd_device.specs.declared.device.Device.{Ghosts}
 use Rattle.bd_table.specs.Tables.{IsTableAt}
@@ -20,7 +19,7 @@ use Rattle.bd_message.specs.KeyMaps.{SameAt}
 use Rattle.bd_node.specs.Meaning.{Nodes}
 use Rattle.bd_node.specs.Steps.{HasGrown}
 use Rattle.bd_node.specs.Tables.{Table, IsSound, root_at}
-use Rattle.bd_step.specs.Steps.{IsFlushStep}
+use Rattle.bd_path.specs.Flushed.{IsFlushed}
 use Rattle.bd_pager.specs.Calling.{read_table}
 use Rattle.bd_shown.proofs.Alike.{read_shown}
 use Rattle.bd_shown.proofs.Kept.{kept_shown}
@@ -93,13 +92,13 @@ pub read_same : {D : Type 0} (g : Ghosts D) (p q : Paged D) → IsReadOf g p q �
 read_same g p q r k = λ i. root_at (read_nodes g p q r i) (read_table g p q r i) k
 
 -- and over a flush step, or none
-pub flush_sound : {D E : Type 0} (g : Ghosts D) (p q : Paged D) (r : Result Bool E) → (r ≢ Ok true → IsReadOf g p q) → (r ≡ Ok true → IsFlushStep (nodes_of g p) (table_of p) (nodes_of g q) (table_of q)) → is_known g q → HasSoundNodes g p → HasSoundNodes g q
-flush_sound g p q (Ok true) rest step known s = record { known = known; sound = (step refl).flushed.sound }
+pub flush_sound : {D E : Type 0} (g : Ghosts D) (p q : Paged D) (r : Result Bool E) → (r ≢ Ok true → IsReadOf g p q) → (r ≡ Ok true → IsFlushed (nodes_of g p) (table_of p) (nodes_of g q) (table_of q)) → is_known g q → HasSoundNodes g p → HasSoundNodes g q
+flush_sound g p q (Ok true) rest step known s = record { known = known; sound = (step refl).sound }
 flush_sound g p q (Ok false) rest step known s = read_sound g p q (rest (λ e. cc)) s
 flush_sound g p q (Err e) rest step known s = read_sound g p q (rest (λ e. cc)) s
 
-pub flush_same : {D E : Type 0} (g : Ghosts D) (p q : Paged D) (r : Result Bool E) → (r ≢ Ok true → IsReadOf g p q) → (r ≡ Ok true → IsFlushStep (nodes_of g p) (table_of p) (nodes_of g q) (table_of q)) → SameAt (keys_of g p) (keys_of g q)
-flush_same g p q (Ok true) rest step = (step refl).flushed.same
+pub flush_same : {D E : Type 0} (g : Ghosts D) (p q : Paged D) (r : Result Bool E) → (r ≢ Ok true → IsReadOf g p q) → (r ≡ Ok true → IsFlushed (nodes_of g p) (table_of p) (nodes_of g q) (table_of q)) → SameAt (keys_of g p) (keys_of g q)
+flush_same g p q (Ok true) rest step = (step refl).same
 flush_same g p q (Ok false) rest step = read_same g p q (rest (λ e. cc))
 flush_same g p q (Err e) rest step = read_same g p q (rest (λ e. cc))
 
@@ -115,11 +114,6 @@ is_appended (Err e) list old new made grows walk = tt
 pub is_grafted : {T E : Type 0} (r : Result T E) (s d : List ℕ) (keep : Bool) (old new : TreeView) → OnOk r (IsGraftMade old.nodes old.table s d keep new.nodes new.table new.walk) → OnOk r (IsWalked old.table new.table new.walk) → OnOk r (HasGrafted s d keep old new)
 is_grafted (Ok x) s d keep old new made walked = record { made = made; walked = walked }
 is_grafted (Err e) s d keep old new made walked = tt
-
--- a step that isn't without need is made where more bytes wait
-pub step_waits : {E : Type 0} (r : Result Bool E) (size limit : ℕ) → (r ≡ Ok false → ⊥) → ((r ≡ Ok false) ↔ (size ≤ limit)) → limit < size
-step_waits r size limit made enough =
-    elim (cases_lt limit size) [ inl many ↦ many | inr few ↦ absurd (made (enough.1 few)) ]
 
 -- none is counted where none was made
 pub not_counted : {E : Type 0} (r : Result Bool E) (before now : ℕ) → (r ≡ Ok true → ⊥) → now ≡ flushes_after before r → now ≡ before

@@ -2,6 +2,7 @@
 use Rattle.std.specs.Prelude.{◌≡◌, ◌⊎◌, ◌==◌, ◌&&◌, ◌-◌, ◌^◌, nat_lt, if◌then◌else◌, ℕ, [], false, is_some, length, Option, None, Some, IsSome, IfSome, Result, Ok, Err, ◌+◌, Bool, min}
 use Rattle.std.specs.List.{concat, AllByRecursion}
 use Rattle.bd_limits.specs.Limits.{cached_limit}
+use Rattle.bd_command.specs.declared.Command.{Command}
 use Rattle.bd_message.specs.KeyMaps.{At, HasMapCause}
 use Rattle.bd_message.specs.declared.fault.Counter.{Counter}
 use Rattle.bd_message.specs.declared.fault.MapFault.{MapFault}
@@ -26,7 +27,6 @@ use Rattle.bd_pager.specs.Moving.{IsDue, WritesOnly}
 use Rattle.bd_pager.specs.Places.{IsBadSpot, NoneTurnsBad}
 use Rattle.bd_pager.specs.Slots.{IsSpare}
 use Rattle.bd_pager.specs.Pagers.{Paged, cache_room, spots_of, nodes_of, table_of, is_known, is_bad, IsReadOf, is_first_damaged}
-use Rattle.bd_step.specs.Steps.{IsWornToFlush}
 use Rattle.bd_image.specs.Standing.{IsAsBefore}
 use Rattle.bd_image.specs.Stored.{HoldsNodes, table_of as stored_table}
 use Rattle.bd_image.specs.Versions.{version_of, mode_version}
@@ -34,6 +34,7 @@ use Rattle.bd_checkpoint.specs.Kept.{IsOpenOn, AllAsBefore}
 use Rattle.bd_checkpoint.specs.Recovering.{saved_of}
 use Rattle.bd_checkpoint.specs.Surviving.{SurvivesOn}
 use Rattle.bd_view.specs.Moves.{OnlyNodes}
+use Rattle.bd_view.specs.Trees.{IsWornToStep}
 use Rattle.bd_view.specs.Views.{View}
 use Rattle.bd_recall.specs.Kept.{Findings, IsKept}
 use Rattle.bd_shown.specs.Shown.{shown}
@@ -106,10 +107,10 @@ HasCause g old new worn result =
     HasMapCause (g.fault_count old.dev) (g.fault_count new.dev) (g.last_failed new.dev)
     (is_bad g new) worn result
 
--- why a flush step has no room in a counter
-abbrev pub IsWornIn : {D : Type 0} → Ghosts D → Paged D → Counter → Type 0
-IsWornIn g p = IsWornToFlush (is_known g p × IsSound (nodes_of g p) (table_of p)) (nodes_of g p)
-    (table_of p)
+-- why a flush step of a command has no room in a counter
+abbrev pub IsWornIn : {D : Type 0} → Ghosts D → Paged D → Command → Counter → Type 0
+IsWornIn g p c =
+    IsWornToStep (is_known g p × IsSound (nodes_of g p) (table_of p)) (nodes_of g p) (table_of p) c
 
 -- ---- what calls leave
 

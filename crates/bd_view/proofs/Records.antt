@@ -1,5 +1,5 @@
 -- The room for a command's record in the log.
-use Rattle.std.proofs.Common.{◌≡◌, ◌<◌, ◌≤◌, true, false, ◌&&◌, ap, arith, lit≤, inl, inr}
+use Rattle.std.proofs.Common.{◌≡◌, ◌<◌, ◌≤◌, false, ◌&&◌, ap, arith, lit≤, inl, inr}
 use Rattle.std.specs.Prelude.{nat_lt, length}
 use Rattle.std.proofs.lemmas.Bool.{cases_Bool, cond-true, cond-false, and_from, and_left, lt-ltb, le-ltb}
 use Rattle.bd_wire.proofs.TextLemmas.{length-text16}

@@ -2,11 +2,22 @@
 use Rattle.std.proofs.Common.{◌≡◌, ℕ, refl, ap, ◌∙◌}
 use Rattle.bd_command.specs.declared.Command.{Command}
 use Rattle.bd_message.specs.KeyMaps.{SameAt}
+use Rattle.bd_node.specs.Meaning.{Nodes}
+use Rattle.bd_node.specs.Tables.{Table}
+use Rattle.bd_path.specs.Flushed.{IsFlushed}
+use Rattle.bd_view.specs.Trees.{IsStepIn}
+use Rattle.bd_view.specs.Trees.IsStepIn.{from_root, of_source}
 use Rattle.bd_view.specs.Views.{View, keys_of}
 use Rattle.bd_view.specs.Moves.{Saves, AreSteps}
 use Rattle.bd_view.specs.Moves.AreSteps.{none, flush, save}
 use Rattle.bd_view.specs.Reclaiming.{AreReclaims, HasReclaimed}
 use Rattle.bd_view.specs.Reclaiming.AreReclaims.{none as no_changes, change, save as save_between}
+
+-- ---- what a flush step of a command leaves
+
+pub step_flushed : (c : Command) (nodes : Nodes) (t : Table) (new : Nodes) (u : Table) → IsStepIn c nodes t new u → IsFlushed nodes t new u
+step_flushed c nodes t new u (from_root many step) = step.flushed
+step_flushed c nodes t new u (of_source s few is step) = step.made.flushed
 
 -- ---- what stands at each key
 
@@ -15,7 +26,8 @@ saved_stands old new h k = ap (λ v. keys_of v k) h.after
 
 pub steps_stand : (c : Command) (made : ℕ) (old new : View) → AreSteps c made old new → SameAt (keys_of old) (keys_of new)
 steps_stand c made old new (none _) k = refl
-steps_stand c made old new (flush n _ w _ h step) k = step.flushes.step.flushed.same k ∙ steps_stand c n old w h k
+steps_stand c made old new (flush n _ w _ h step) k =
+    (step_flushed c w.tree.nodes w.tree.table new.tree.nodes new.tree.table step.flushes.step).same k ∙ steps_stand c n old w h k
 steps_stand c made old new (save n _ w _ h step) k = saved_stands w new step.saves k ∙ steps_stand c n old w h k
 
 changes_stand : (pushes : ℕ) (old new : View) → AreReclaims pushes old new → SameAt (keys_of old) (keys_of new)

@@ -1,10 +1,15 @@
 -- Views from which a command makes no flush step and no checkpoint.
-use Rattle.std.proofs.Common.{◌≡◌, ℕ, ◌<◌, ◌≤◌, ◌⊎◌, refl, ap, subst, ◌∙◌, arith, lit≤, inl, inr}
+use Rattle.std.proofs.Common.{◌≡◌, ℕ, ◌<◌, ◌≤◌, ◌⊎◌, List, refl, ap, subst, ◌∙◌, arith, lit≤, inl, inr}
 use Rattle.std.specs.Prelude.{IsTrue}
 use Rattle.std.proofs.lemmas.Bool.{cases_lt}
 use Rattle.bd_command.specs.Command.{writes}
 use Rattle.bd_command.specs.declared.Command.{Command}
 use Rattle.bd_model.specs.Tree.{Tree}
+use Rattle.bd_node.specs.Meaning.{Nodes}
+use Rattle.bd_node.specs.Tables.{Table}
+use Rattle.bd_step.specs.Settling.{IsDueOn, IsSettled}
+use Rattle.bd_view.specs.Trees.{waiting_limit, IsStepIn, IsSettledIn}
+use Rattle.bd_view.specs.Trees.IsStepIn.{from_root, of_source}
 use Rattle.bd_view.specs.Views.{View, free_slots, save_slots, need_slots, log_room}
 use Rattle.bd_view.specs.Moves.{OnlyNodes, saved_view, FlushesIn, SavesIn, AreSteps, IsQuietFor, IsCommandFull, IsExecuted}
 use Rattle.bd_view.specs.Moves.AreSteps.{none, flush, save}
@@ -55,18 +60,26 @@ still_steps c made v new (save n _ w _ h step) still =
 
 -- ---- little waits, and there is room
 
-quiet_still : (c : Command) (v : View) → IsQuietFor c v → IsStill c v
-quiet_still c v quiet = record {
-  flushes = λ new h. omega (arith, quiet.enough, h.flushes.waits);
+-- where what waits for a prefix is settled, no step is due on its way
+abbrev pub AreSettledApart : Type 0
+AreSettledApart = (nodes : Nodes) (t : Table) (s : List ℕ) (id place : ℕ) → IsSettled nodes t s → ¬ IsDueOn nodes t s id place
+
+none_due : AreSettledApart → (c : Command) (nodes : Nodes) (t : Table) (new : Nodes) (u : Table) → t.size ≤ waiting_limit c → IsSettledIn c nodes t → IsStepIn c nodes t new u → ⊥
+none_due apart c nodes t new u few settled (from_root many step) = omega (arith, few, many)
+none_due apart c nodes t new u few settled (of_source s little is step) = apart nodes t s step.site.parent.id step.site.place (settled s is) step.here.due
+
+quiet_still : AreSettledApart → (c : Command) (v : View) → IsQuietFor c v → IsStill c v
+quiet_still apart c v quiet = record {
+  flushes = λ new h. none_due apart c v.tree.nodes v.tree.table new.tree.nodes new.tree.table quiet.enough quiet.settled h.flushes.step;
   saves = λ new h. elim h.calls_for [ inl short ↦ omega (arith, quiet.room, short) | inr long ↦ omega (arith, quiet.log, long) ];
 }
 
-pub quiet_steps : (c : Command) (v new : View) (made : ℕ) → IsQuietFor c v → AreSteps c made v new → (made ≡ 0) × (new ≡ v)
-quiet_steps c v new made quiet steps = still_steps c made v new steps (quiet_still c v quiet)
+pub quiet_steps : AreSettledApart → (c : Command) (v new : View) (made : ℕ) → IsQuietFor c v → AreSteps c made v new → (made ≡ 0) × (new ≡ v)
+quiet_steps apart c v new made quiet steps = still_steps c made v new steps (quiet_still apart c v quiet)
 
-pub quiet_not_full : (c : Command) (v new : View) (free need : ℕ) → IsQuietFor c v → IsCommandFull c v new free need → ⊥
-quiet_not_full c v new free need quiet full =
-    let same : new ≡ v = (quiet_steps c v new full.stepped.made quiet full.stepped.steps).1 in
+pub quiet_not_full : AreSettledApart → (c : Command) (v new : View) (free need : ℕ) → IsQuietFor c v → IsCommandFull c v new free need → ⊥
+quiet_not_full apart c v new free need quiet full =
+    let same : new ≡ v = (quiet_steps apart c v new full.stepped.made quiet full.stepped.steps).1 in
     omega (arith, quiet.room, full.free_is, full.need_is, full.short, ap (λ u. free_slots u) same, ap (λ u. need_slots c u) same)
 
 -- ---- there are too few slots for a checkpoint

@@ -10,7 +10,7 @@ use Rattle.bd_node.specs.Steps.{with_touched}
 use Rattle.bd_node.specs.Tables.{IsKept}
 use Rattle.bd_log.specs.Batches.{blocks_for}
 use Rattle.bd_image.specs.Versions.{mode_version}
-use Rattle.bd_view.specs.Trees.{FlushesFor, HasSent, waiting_limit}
+use Rattle.bd_view.specs.Trees.{FlushesFor, IsSettledFor, HasSent, waiting_limit}
 use Rattle.bd_view.specs.Views.{View, keys_of, is_saved, changed_count, kept_ids, free_slots, save_slots, need_slots, record_room, log_size}
 
 -- ---- between checkpoints
@@ -94,20 +94,24 @@ pub record IsCommandFull (c : Command) (old new : View) (free need : ℕ) : Type
   pub short : free < need
   pub unsaved : CannotSave new
 
--- neither is needed: little waits in the root, and there is room in slots and in the log
+-- neither is needed: little waits in the root, no step is due on the way of a graft's source, and
+-- there is room in slots and in the log
 pub record IsQuietFor (c : Command) (v : View) : Type 0 where
   pub enough : v.tree.table.size ≤ waiting_limit c
+  pub settled : IsSettledFor c v.tree
   pub room : need_slots c v ≤ free_slots v
   pub log : log_size c ≤ record_room c v
 
 -- ---- an accepted command
 
--- a writing command that a tree accepts makes flush steps, each while more bytes wait in the root
--- than its limit, and checkpoints; then slots are free, and it sends just what it comes to
+-- a writing command that a tree accepts makes flush steps and checkpoints, until no more bytes wait
+-- in the root than its limit and, unless it made 65,536 steps, none is due on the way of a graft's
+-- source; then slots are free, and it sends just what it comes to
 pub record IsExecuted (t : Tree) (c : Command) (old new : View) : Type 0 where
   pub mid : View
   pub stepped : HasStepped c old mid
   pub enough : mid.tree.table.size ≤ waiting_limit c
+  pub settled : (stepped.made ≡ flush_limit) ⊎ IsSettledFor c mid.tree
   pub room : need_slots c mid ≤ free_slots mid
   pub sent : HasSent (sending (keys_of old) t c) mid.tree new.tree
   pub rest : OnlyNodes mid new
@@ -143,14 +147,16 @@ pub data AreFlushedAgain (c : Command) : ℕ → View → View → Type 0 where
   more : (n : ℕ) (v w x : View) → AreFlushedAgain c n v w → FlushesAgain c w x
       → AreFlushedAgain c (n + 1) v x
 
--- a command of the log makes flush steps, at most 65,536, each while more bytes wait in the root
--- than its limit, and sends just what it comes to; its record doesn't wait again
+-- a command of the log makes flush steps, at most 65,536, until no more bytes wait in the root than
+-- its limit and, unless it made so many, none is due on the way of a graft's source; then it sends
+-- just what it comes to, and its record doesn't wait again
 pub record IsReplayed (t : Tree) (c : Command) (old new : View) : Type 0 where
   pub made : ℕ
   pub mid : View
   pub flushed : AreFlushedAgain c made old mid
   pub few : made ≤ flush_limit
   pub enough : mid.tree.table.size ≤ waiting_limit c
+  pub settled : (made ≡ flush_limit) ⊎ IsSettledFor c mid.tree
   pub sent : HasSent (sending (keys_of old) t c) mid.tree new.tree
   pub rest : OnlyNodes mid new
 

@@ -1,8 +1,9 @@
 -- What is seen of a tree of nodes, and how commands change it.
-use Rattle.std.specs.Prelude.{◌≡◌, ℕ, ◌+◌, ◌*◌, ◌<◌, ◌≤◌, ◌==◌, Bool, if◌then◌else◌, List, None, Some, IsTrue}
+use Rattle.std.specs.Prelude.{◌≡◌, ℕ, ◌+◌, ◌*◌, ◌<◌, ◌≤◌, ◌==◌, Bool, if◌then◌else◌, List, Option, None, Some, IsTrue}
 use Rattle.bd_limits.specs.Limits.{soft_limit, late_limit, flush_limit}
 use Rattle.bd_command.specs.Command.{writes}
 use Rattle.bd_command.specs.declared.Command.{Command}
+use Rattle.bd_message.specs.declared.fault.Counter.{Counter}
 use Rattle.bd_message.specs.declared.message.Message.{Message}
 use Rattle.bd_dirs.specs.Kinds.{Kind, Reads, Sends, SendsLate, Grafts, kind_of}
 use Rattle.bd_dirs.specs.Sendings.{Sending, Nothing, Batch, Move}
@@ -15,7 +16,8 @@ use Rattle.bd_node.specs.Tables.{Table}
 use Rattle.bd_node.specs.Steps.{IsCommitted, HasGrown, append_step, grown}
 use Rattle.bd_graft.specs.declared.grafting.Walk.{Walk}
 use Rattle.bd_graft.specs.Grafting.{IsGrown, IsGraftStep, IsWalkOf, AreOthersSame}
-use Rattle.bd_step.specs.Steps.{IsFlushStep}
+use Rattle.bd_step.specs.Settling.{IsSettled, IsSettleStep, IsSettleFound, IsWornToSettle}
+use Rattle.bd_step.specs.Steps.{IsFlushStep, IsFound, IsWornToFlush}
 
 -- the nodes of a tree, their table, and how the last graft in it went
 pub record TreeView : Type 0 where
@@ -33,7 +35,7 @@ fresh_tree = record {
 
 -- ---- flushes
 
--- up to this many bytes that wait in the root, a command flushes nothing
+-- up to this many bytes that wait in the root, a command makes no flush step from there
 abbrev pub limit_of : Kind → ℕ
 limit_of Reads = soft_limit
 limit_of Sends = soft_limit
@@ -43,11 +45,51 @@ limit_of (Grafts s d keep) = soft_limit
 abbrev pub waiting_limit : Command → ℕ
 waiting_limit c = limit_of (kind_of c)
 
--- a writing command made one flush step, where more bytes waited in the root than its limit
+-- the prefix of the keys that a command grafts, if it grafts some
+abbrev pub source_of : Kind → Option (List ℕ)
+source_of Reads = None
+source_of Sends = None
+source_of SendsLate = None
+source_of (Grafts s d keep) = Some s
+
+-- one flush step of a command: where more bytes wait in the root than its limit, one from the root;
+-- else, before a graft, one where 1,024 bytes or more wait for its source, on the way of that
+pub data IsStepIn (c : Command) (nodes : Nodes) (t : Table) (new : Nodes) (u : Table) : Type 0 where
+  from_root : waiting_limit c < t.size → IsFlushStep nodes t new u → IsStepIn c nodes t new u
+  of_source : (s : List ℕ) → t.size ≤ waiting_limit c → source_of (kind_of c) ≡ Some s
+      → IsSettleStep nodes t s new u → IsStepIn c nodes t new u
+
+-- such a step, as far as the tables tell
+pub data IsStepFound (c : Command) (t u : Table) : Type 0 where
+  found_at_root : waiting_limit c < t.size → IsFound t u → IsStepFound c t u
+  found_at_source : (s : List ℕ) → t.size ≤ waiting_limit c → source_of (kind_of c) ≡ Some s
+      → IsSettleFound t u → IsStepFound c t u
+
+-- why none is made: a counter has to pass its last value for all that such a step adds, where the
+-- nodes may be known or not
+pub data IsWornToStep (known : Type 0) (nodes : Nodes) (t : Table) (c : Command)
+    (counter : Counter) : Type 0 where
+  worn_at_root : waiting_limit c < t.size → IsWornToFlush known nodes t counter
+      → IsWornToStep known nodes t c counter
+  worn_at_source : (s : List ℕ) → t.size ≤ waiting_limit c → source_of (kind_of c) ≡ Some s
+      → IsWornToSettle known nodes t s counter → IsWornToStep known nodes t c counter
+
+-- no step is due on the way of the source of a command that grafts
+abbrev pub IsSettledIn : Command → Nodes → Table → Type 0
+IsSettledIn c nodes t = (s : List ℕ) → source_of (kind_of c) ≡ Some s → IsSettled nodes t s
+
+-- one flush step of a command leads from a tree to another
+abbrev pub IsStepFor : Command → TreeView → TreeView → Type 0
+IsStepFor c old new = IsStepIn c old.nodes old.table new.nodes new.table
+
+-- none is due in a tree on the way of its source
+abbrev pub IsSettledFor : Command → TreeView → Type 0
+IsSettledFor c v = IsSettledIn c v.nodes v.table
+
+-- a writing command made one flush step
 pub record FlushesFor (c : Command) (old new : TreeView) : Type 0 where
   pub writing : IsTrue (writes c)
-  pub waits : waiting_limit c < old.table.size
-  pub step : IsFlushStep old.nodes old.table new.nodes new.table
+  pub step : IsStepFor c old new
   pub walk_is : new.walk ≡ old.walk
 
 -- so many flush steps of a command lead from the first view to the second

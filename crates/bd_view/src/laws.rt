@@ -21,6 +21,7 @@ ghost use Rattle.bd_view.specs.Moves.{OnlyNodes, Saves, IsCheckpointFull, SavesI
 ghost use Rattle.bd_view.specs.Reclaiming.{HasReclaimed, IsReclaim, IsReclaimFull};
 
 use bd_command::laws::log_records_fit;
+use bd_step::laws::ways_of_prefixes_are_one;
 
 /// There are as many ids of kept nodes as there are kept nodes, and a rising list of ids that has
 /// those of the kept nodes, and no others, is that of their ids.
@@ -72,14 +73,17 @@ pub fn commands_go_on_or_are_full()
         → IsCommandFull c old new free need → ¬ (need_slots c new ≤ free_slots new) }
 {}
 
-/// Where little waits in the root, and slots and the log have room, a command makes no flush step
-/// and no checkpoint, and isn't refused for want of slots.
+/// Where little waits in the root, no step is due on the way of a graft's source, and slots and the
+/// log have room, a command makes no flush step and no checkpoint, and isn't refused for want of
+/// slots.
 pub fn quiet_views_stay()
     ensures steps { (c : Command) (v new : View) (made : ℕ) → IsQuietFor c v
         → AreSteps c made v new → (made ≡ 0) × (new ≡ v) }
     ensures full { (c : Command) (v new : View) (free need : ℕ) → IsQuietFor c v
         → ¬ IsCommandFull c v new free need }
-{}
+{
+    ways_of_prefixes_are_one();
+}
 
 /// Where there are too few slots for a checkpoint, a command makes no flush step and no checkpoint:
 /// it isn't executed, and the numbers that it is refused with are those of the view.

@@ -11,10 +11,7 @@ use Rattle.bd_message.specs.declared.fault.MapFault.TheVariants as map
 use Rattle.bd_message.specs.KeyMaps.{IsCause, NeverWorn}
 use Rattle.bd_device.specs.declared.device.Device.{Ghosts}
 use Rattle.bd_super.specs.declared.superblock.Super.{Super}
-use Rattle.bd_node.specs.Meaning.{Nodes}
 use Rattle.bd_node.specs.Tables.{Table, IsSound}
-use Rattle.bd_step.specs.Steps.{IsWornToFlush}
-use Rattle.bd_step.proofs.Making.{step_known}
 use Rattle.bd_graft.specs.Grafting.{IsWornForGraft, IsWornByGraft, OnWorn}
 use Rattle.bd_dirs.specs.declared.plan.Plan.TheVariants.{Graft}
 use Rattle.bd_dirs.specs.Kinds.{Kind, Reads, Sends, SendsLate, Grafts, kind_of}
@@ -35,14 +32,15 @@ use Rattle.bd_volume.specs.Wears.{IsWornByKind, IsWornForSending, IsWornForSave,
 use Rattle.bd_volume.specs.Steps.{ShowsStep, ShowsFault, IsSaveFault, IsWornInStep, IsStepFault, IsCommandFault}
 use Rattle.bd_volume.proofs.Stepped.{not_stepped}
 use Rattle.bd_volume.proofs.Read.{read_worn}
+use Rattle.bd_volume.proofs.Worn.{worn_where}
 
 -- ---- a command's fault, after its steps
 
 worn_halts : (which : Counter) (count : ℕ) (c : Command) (made : ℕ) (old new : View) → IsWornInStep which c new → IsWornNow which count c made old new
 worn_halts Count count c made old new h = absurd h
-worn_halts NextId count c made old new h = inl (record { waits = h.waits; worn = h.worn })
-worn_halts Level count c made old new h = inl (record { waits = h.waits; worn = h.worn })
-worn_halts Refs count c made old new h = inl (record { waits = h.waits; worn = h.worn })
+worn_halts NextId count c made old new h = inl h
+worn_halts Level count c made old new h = inl h
+worn_halts Refs count c made old new h = inl h
 worn_halts Epoch count c made old new h = h
 worn_halts Flushes count c made old new h = absurd h
 
@@ -70,7 +68,7 @@ pub flushes_worn : (count : ℕ) (c : Command) (made : ℕ) (old new : View) →
 flushes_worn count c made old new writing steps all waits = record {
   counts = writing;
   stepped = record { made = made; steps = steps; few = omega (arith, all) };
-  worn = record { waits = waits; worn = all };
+  worn = record { waits = waits; all = all };
 }
 
 -- ---- grafts
@@ -101,20 +99,6 @@ worn_graft_again Level count c made v s d keep h sent = inr sent
 worn_graft_again Refs count c made v s d keep h sent = inr sent
 worn_graft_again Epoch count c made v s d keep h sent = never_by_graft v.nodes v.table s d keep Epoch (λ step w. w) (λ e. cc) h
 worn_graft_again Flushes count c made v s d keep h sent = absurd (never_by_graft v.nodes v.table s d keep Flushes (λ step w. w) (λ e. cc) h)
-
--- ---- the same step, where less is known
-
-worn_where : (K L : Type 0) (nodes : Nodes) (t : Table) (which : Counter) → (L → K) → IsWornToFlush K nodes t which → IsWornToFlush L nodes t which
-worn_where K L nodes t which knows h = record {
-  step = h.step;
-  to_do = h.to_do;
-  way = h.way;
-  here = λ l. h.here (knows l);
-  worn = elim h.worn [
-    | inl w ↦ inl (record { step = w.step; is = step_known L K nodes nodes t h.step w.step (λ l. (knows l, refl)) w.is; worn = w.worn })
-    | inr high ↦ inr high
-  ];
-}
 
 module _ {D : Type 0} (g : Ghosts D) where
   -- ---- checkpoints
@@ -173,37 +157,36 @@ module _ {D : Type 0} (g : Ghosts D) where
   abbrev AreKnownIn : Paged D → Type 0
   AreKnownIn p = is_known g p × IsSound (nodes_of g p) (table_of p)
 
-  pub worn_in_step : (a : Volume D) (which : Counter) (c : Command) → is_known g a.engine.pager → waiting_limit c < (table_of a.engine.pager).size → IsWornIn g a.engine.pager which → IsWornInStep which c (view_of g a)
-  worn_in_step a Count c known waits h = never_counted (AreKnownIn a.engine.pager) (view_of g a).tree Count (λ step w. w) (λ e. cc) h
-  worn_in_step a NextId c known waits h = record { waits = waits; worn = worn_where (AreKnownIn a.engine.pager) (IsSound (nodes_of g a.engine.pager) (table_of a.engine.pager)) (nodes_of g a.engine.pager) (table_of a.engine.pager) NextId (λ sound. (known, sound)) h }
-  worn_in_step a Level c known waits h = record { waits = waits; worn = worn_where (AreKnownIn a.engine.pager) (IsSound (nodes_of g a.engine.pager) (table_of a.engine.pager)) (nodes_of g a.engine.pager) (table_of a.engine.pager) Level (λ sound. (known, sound)) h }
-  worn_in_step a Refs c known waits h = record { waits = waits; worn = worn_where (AreKnownIn a.engine.pager) (IsSound (nodes_of g a.engine.pager) (table_of a.engine.pager)) (nodes_of g a.engine.pager) (table_of a.engine.pager) Refs (λ sound. (known, sound)) h }
-  worn_in_step a Epoch c known waits h = absurd (never_counted (AreKnownIn a.engine.pager) (view_of g a).tree Epoch (λ step w. w) (λ e. cc) h)
-  worn_in_step a Flushes c known waits h = never_counted (AreKnownIn a.engine.pager) (view_of g a).tree Flushes (λ step w. w) (λ e. cc) h
+  pub worn_in_step : (a : Volume D) (which : Counter) (c : Command) → is_known g a.engine.pager → IsWornIn g a.engine.pager c which → IsWornInStep which c (view_of g a)
+  worn_in_step a Count c known h = never_counted (AreKnownIn a.engine.pager) (view_of g a).tree c Count (λ step w. w) (λ e. cc) h
+  worn_in_step a NextId c known h = worn_where (AreKnownIn a.engine.pager) (IsSound (nodes_of g a.engine.pager) (table_of a.engine.pager)) (nodes_of g a.engine.pager) (table_of a.engine.pager) c NextId (λ sound. (known, sound)) h
+  worn_in_step a Level c known h = worn_where (AreKnownIn a.engine.pager) (IsSound (nodes_of g a.engine.pager) (table_of a.engine.pager)) (nodes_of g a.engine.pager) (table_of a.engine.pager) c Level (λ sound. (known, sound)) h
+  worn_in_step a Refs c known h = worn_where (AreKnownIn a.engine.pager) (IsSound (nodes_of g a.engine.pager) (table_of a.engine.pager)) (nodes_of g a.engine.pager) (table_of a.engine.pager) c Refs (λ sound. (known, sound)) h
+  worn_in_step a Epoch c known h = absurd (never_counted (AreKnownIn a.engine.pager) (view_of g a).tree c Epoch (λ step w. w) (λ e. cc) h)
+  worn_in_step a Flushes c known h = never_counted (AreKnownIn a.engine.pager) (view_of g a).tree c Flushes (λ step w. w) (λ e. cc) h
 
   -- one that isn't made, since a counter is worn or there is no memory
-  pub flush_fails : (m n : ℕ) (last : Bool) (a b : Volume D) (c : Command) (fault : MapFault) → is_known g a.engine.pager → waiting_limit c < (table_of a.engine.pager).size → view_of g b ≡ view_of g a → ((block : ℕ) → is_bad g b.engine.pager block → ⊥)
-      → IsCause m n last (is_bad g b.engine.pager) (IsWornIn g a.engine.pager) fault → IsStepFault (fault_of fault) c (view_of g b)
-  flush_fails m n last a b c map.DeviceFault known waits same good h = tt
-  flush_fails m n last a b c (map.Damaged block) known waits same good h = good block h
-  flush_fails m n last a b c (map.Worn which) known waits same good h = subst (λ (v : View). IsWornInStep which c v) (sym same) (worn_in_step a which c known waits h)
-  flush_fails m n last a b c map.NoMemory known waits same good h = tt
+  pub flush_fails : (m n : ℕ) (last : Bool) (a b : Volume D) (c : Command) (fault : MapFault) → is_known g a.engine.pager → view_of g b ≡ view_of g a → ((block : ℕ) → is_bad g b.engine.pager block → ⊥)
+      → IsCause m n last (is_bad g b.engine.pager) (IsWornIn g a.engine.pager c) fault → IsStepFault (fault_of fault) c (view_of g b)
+  flush_fails m n last a b c map.DeviceFault known same good h = tt
+  flush_fails m n last a b c (map.Damaged block) known same good h = good block h
+  flush_fails m n last a b c (map.Worn which) known same good h = subst (λ (v : View). IsWornInStep which c v) (sym same) (worn_in_step a which c known h)
+  flush_fails m n last a b c map.NoMemory known same good h = tt
 
-  worn_shows : (b : Volume D) (which : Counter) (c : Command) → waiting_limit c < (table_of b.engine.pager).size → IsWornIn g b.engine.pager which → ShowsWornIn g which c b.engine
-  worn_shows b Count c waits h = absurd (never_counted (AreKnownIn b.engine.pager) (view_of g b).tree Count (λ step w. w) (λ e. cc) h)
-  worn_shows b NextId c waits h = inl (record { waits = waits; worn = h })
-  worn_shows b Level c waits h = inl (record { waits = waits; worn = h })
-  worn_shows b Refs c waits h = inl (record { waits = waits; worn = h })
-  worn_shows b Epoch c waits h = absurd (never_counted (AreKnownIn b.engine.pager) (view_of g b).tree Epoch (λ step w. w) (λ e. cc) h)
-  worn_shows b Flushes c waits h = absurd (never_counted (AreKnownIn b.engine.pager) (view_of g b).tree Flushes (λ step w. w) (λ e. cc) h)
+  worn_shows : (b : Volume D) (which : Counter) (c : Command) → IsWornIn g b.engine.pager c which → ShowsWornIn g which c b.engine
+  worn_shows b Count c h = absurd (never_counted (AreKnownIn b.engine.pager) (view_of g b).tree c Count (λ step w. w) (λ e. cc) h)
+  worn_shows b NextId c h = inl h
+  worn_shows b Level c h = inl h
+  worn_shows b Refs c h = inl h
+  worn_shows b Epoch c h = absurd (never_counted (AreKnownIn b.engine.pager) (view_of g b).tree c Epoch (λ step w. w) (λ e. cc) h)
+  worn_shows b Flushes c h = absurd (never_counted (AreKnownIn b.engine.pager) (view_of g b).tree c Flushes (λ step w. w) (λ e. cc) h)
 
-  pub flush_shows : (m n : ℕ) (last : Bool) (a b : Volume D) (c : Command) (fault : MapFault) → waiting_limit c < (table_of a.engine.pager).size → IsReadOf g a.engine.pager b.engine.pager
-      → IsCause m n last (is_bad g b.engine.pager) (IsWornIn g a.engine.pager) fault → ShowsStep g (fault_of fault) c b.engine
-  flush_shows m n last a b c map.DeviceFault waits read h = tt
-  flush_shows m n last a b c (map.Damaged block) waits read h = tt
-  flush_shows m n last a b c (map.Worn which) waits read h =
-      worn_shows b which c (subst (λ (t : Table). waiting_limit c < t.size) (sym (read_table g a.engine.pager b.engine.pager read)) waits) (read_worn g a.engine.pager b.engine.pager which read h)
-  flush_shows m n last a b c map.NoMemory waits read h = tt
+  pub flush_shows : (m n : ℕ) (last : Bool) (a b : Volume D) (c : Command) (fault : MapFault) → IsReadOf g a.engine.pager b.engine.pager
+      → IsCause m n last (is_bad g b.engine.pager) (IsWornIn g a.engine.pager c) fault → ShowsStep g (fault_of fault) c b.engine
+  flush_shows m n last a b c map.DeviceFault read h = tt
+  flush_shows m n last a b c (map.Damaged block) read h = tt
+  flush_shows m n last a b c (map.Worn which) read h = worn_shows b which c (read_worn g a.engine.pager b.engine.pager c which read h)
+  flush_shows m n last a b c map.NoMemory read h = tt
 
   -- ---- reads, messages and grafts
 

@@ -15,4 +15,5 @@ pub mod Started
 pub mod Starts
 pub mod Stepped
 pub mod Synced
+pub mod Worn
 pub mod Writes

@@ -1,5 +1,6 @@
 -- What is known after calls that only read, and after others.
 use Rattle.std.proofs.Common.{◌≡◌, ℕ, Option, None, sym, subst, ap, ◌∙◌}
+use Rattle.bd_command.specs.declared.Command.{Command}
 use Rattle.bd_model.specs.Tree.{Tree}
 use Rattle.bd_message.specs.declared.fault.Counter.{Counter}
 use Rattle.bd_message.specs.KeyMaps.{SameAt}
@@ -7,13 +8,13 @@ use Rattle.bd_represent.proofs.TreeLemmas.{Represents-along}
 use Rattle.bd_device.specs.Blocks.{Image}
 use Rattle.bd_device.specs.declared.device.Device.{Ghosts}
 use Rattle.bd_node.specs.Tables.{Table, IsSound, root_at}
-use Rattle.bd_step.specs.Steps.{IsWornToFlush}
 use Rattle.bd_cover.specs.declared.walking.Reclaim.{Reclaim}
 use Rattle.bd_reclaim.specs.Changes.{IsWornChange}
 use Rattle.bd_log.specs.Logs.{LogState}
 use Rattle.bd_pager.specs.Calling.{read_table}
 use Rattle.bd_pager.specs.Places.{Spots, nodes_at}
 use Rattle.bd_pager.specs.Pagers.{Paged, spots_of, table_of, IsKnownOver, IsReadOf}
+use Rattle.bd_view.specs.Trees.{IsWornToStep}
 use Rattle.bd_view.specs.Views.{View}
 use Rattle.bd_engine.specs.Engines.{EngineState, keys_of, IsSoundOn, IsWornIn, IsReadOn}
 use Rattle.bd_engine.specs.Reclaiming.{IsWornToChange}
@@ -27,9 +28,9 @@ module _ {D : Type 0} (g : Ghosts D) where
   read_same a b r k = ap (λ (v : View). root_at v.tree.nodes v.tree.table k) r.view
 
   -- a counter that was worn is so
-  pub read_worn : (p q : Paged D) (which : Counter) → IsReadOf g p q → IsWornIn g p which → IsWornIn g q which
-  read_worn p q which r h =
-      let Is : Option Image → Spots → Table → Type 0 = λ o s t. IsWornToFlush (IsKnownOver o s × IsSound (nodes_at o s) t) (nodes_at o s) t which in
+  pub read_worn : (p q : Paged D) (c : Command) (which : Counter) → IsReadOf g p q → IsWornIn g p c which → IsWornIn g q c which
+  read_worn p q c which r h =
+      let Is : Option Image → Spots → Table → Type 0 = λ o s t. IsWornToStep (IsKnownOver o s × IsSound (nodes_at o s) t) (nodes_at o s) t c which in
       subst (λ (t : Table). Is (g.contents q.dev) (spots_of q) t) (sym (read_table g p q r))
       (subst (λ (s : Spots). Is (g.contents q.dev) s (table_of p)) (sym r.spots) (subst (λ (o : Option Image). Is o (spots_of p) (table_of p)) (sym r.device.kept) h))
 

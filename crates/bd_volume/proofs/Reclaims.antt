@@ -11,7 +11,6 @@ use Rattle.bd_node.specs.declared.node.Step.{Step}
 use Rattle.bd_node.specs.Meaning.{Nodes}
 use Rattle.bd_node.specs.Steps.{IsWornBy}
 use Rattle.bd_node.specs.Tables.{Table, IsSound}
-use Rattle.bd_step.proofs.Making.{step_known}
 use Rattle.bd_cover.specs.declared.walking.Reclaim.{Reclaim}
 use Rattle.bd_cover.specs.declared.walking.Reclaim.TheVariants.{Shrink, Drop, Redirect, Push}
 use Rattle.bd_cover.specs.Reclaimed.{left_over, root_only}
@@ -35,6 +34,7 @@ use Rattle.bd_volume.specs.Reclaims.{ChangesOnce, IsChangedTo, IsPushedTo, Chang
 use Rattle.bd_volume.specs.Reclaims.ChangesOnce.{made, saved}
 use Rattle.bd_volume.specs.Wears.{IsWornToReclaim, ShowsWornChange, ShowsWornToReclaim}
 use Rattle.bd_volume.proofs.Read.{read_change}
+use Rattle.bd_volume.proofs.Worn.{from_where}
 
 -- ---- pushes
 
@@ -186,18 +186,7 @@ worn_where : (K L : Type 0) (nodes : Nodes) (t : Table) (step : Reclaim) (which 
 worn_where K L nodes t (Shrink child) which knows h = h
 worn_where K L nodes t (Drop node place at) which knows h = h
 worn_where K L nodes t (Redirect node place at) which knows h = h
-worn_where K L nodes t (Push above node place) which knows h = record {
-  step = h.step;
-  begins = h.begins;
-  due = h.due;
-  way = h.way;
-  stands = λ l. h.stands (knows l);
-  reached = λ l. h.reached (knows l);
-  worn = elim h.worn [
-    | inl w ↦ inl (record { step = w.step; is = step_known L K nodes nodes t h.step w.step (λ l. (knows l, refl)) w.is; worn = w.worn })
-    | inr high ↦ inr high
-  ];
-}
+worn_where K L nodes t (Push above node place) which knows h = from_where K L nodes t (record { above = above; parent = node; place = place }) which knows h
 
 -- the counter has no room for the next change
 worn_next : (K : Type 0) (which : Counter) (pushes : ℕ) (step : Reclaim) (v : View) → (IsSound v.tree.nodes v.tree.table → K) → IsNextChange pushes step v → IsWornChange K v.tree.nodes v.tree.table step which → IsWornToReclaim which v

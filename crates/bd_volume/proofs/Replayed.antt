@@ -1,6 +1,6 @@
 -- Commands of the log, replayed one after the other.
 use Rattle.std.proofs.Common.{◌≡◌, ℕ, ◌+◌, ◌*◌, ◌<◌, ◌≤◌, ◌^◌, Bool, false, List, [], ◌∷◌, ◌++◌, length, None, Some, refl, sym, subst, ap, ◌∙◌, inl, inr, arith, lit≤, append_assoc}
-use Rattle.std.specs.Prelude.{Result, Ok, Err, OnOk, IfErr, IsTrue}
+use Rattle.std.specs.Prelude.{◌⊎◌, Result, Ok, Err, OnOk, IfErr, IsTrue}
 use Rattle.std.proofs.lemmas.List.{length-append}
 use Rattle.bd_limits.specs.Limits.{flush_limit}
 use Rattle.bd_command.specs.Command.{IsCommand}
@@ -36,7 +36,7 @@ use Rattle.bd_checkpoint.specs.Recovering.{LeadsBy}
 use Rattle.bd_checkpoint.proofs.Checkpointed.{failed_after}
 use Rattle.bd_pager.specs.Pagers.{nodes_of, table_of, is_known, is_bad}
 use Rattle.bd_node.specs.Tables.{IsSound}
-use Rattle.bd_view.specs.Trees.{HasSent, TreeView, waiting_limit}
+use Rattle.bd_view.specs.Trees.{HasSent, IsSettledFor, TreeView, waiting_limit}
 use Rattle.bd_view.specs.Views.{View, keys_of as view_keys}
 use Rattle.bd_view.specs.Moves.{OnlyNodes, FlushesAgain, AreFlushedAgain, IsReplayed, AreReplayed}
 use Rattle.bd_view.specs.Moves.AreFlushedAgain.{none, more}
@@ -62,14 +62,14 @@ again_same c n a b d p same = subst (λ (v : View). AreFlushedAgain c n a v) (sy
 -- a counter that has no room for the next one has none for the command
 worn_again : (which : Counter) (count : ℕ) (c : Command) (made : ℕ) (v : TreeView) → IsWornAgain which c v → IsWornInReplay which count c made v
 worn_again Count count c made v h = absurd h
-worn_again NextId count c made v h = inl (record { waits = h.waits; worn = h.worn })
-worn_again Level count c made v h = inl (record { waits = h.waits; worn = h.worn })
-worn_again Refs count c made v h = inl (record { waits = h.waits; worn = h.worn })
+worn_again NextId count c made v h = inl h
+worn_again Level count c made v h = inl h
+worn_again Refs count c made v h = inl h
 worn_again Epoch count c made v h = absurd h
 worn_again Flushes count c made v h = absurd h
 
 pub all_flushed : (count : ℕ) (c : Command) (made : ℕ) (a b : View) → AreFlushedAgain c made a b → made ≡ flush_limit → waiting_limit c < b.tree.table.size → WearsAgain Flushes count c a
-all_flushed count c made a b p all waits = record { made = made; last = b; flushed = p; few = omega (arith, all); worn = record { waits = waits; worn = all } }
+all_flushed count c made a b p all waits = record { made = made; last = b; flushed = p; few = omega (arith, all); worn = record { waits = waits; all = all } }
 
 -- ---- one command
 
@@ -80,6 +80,7 @@ replayed_view t c what a b h is = record {
   flushed = h.flushed;
   few = h.few;
   enough = h.enough;
+  settled = h.settled;
   sent = subst (λ (x : Sending). HasSent x h.mid.tree b.tree) (sym is) h.sent;
   rest = h.rest;
 }
@@ -157,22 +158,22 @@ module _ {D : Type 0} (g : Ghosts D) where
 
   -- ---- faults
 
-  worn_in_again : (a : Volume D) (which : Counter) (c : Command) → is_known g a.engine.pager → waiting_limit c < (table_of a.engine.pager).size → IsWornIn g a.engine.pager which → IsWornAgain which c (view_of g a).tree
-  worn_in_again a Count c known waits h = worn_in_step g a Count c known waits h
-  worn_in_again a NextId c known waits h = worn_in_step g a NextId c known waits h
-  worn_in_again a Level c known waits h = worn_in_step g a Level c known waits h
-  worn_in_again a Refs c known waits h = worn_in_step g a Refs c known waits h
-  worn_in_again a Epoch c known waits h =
-      never_counted (is_known g a.engine.pager × IsSound (nodes_of g a.engine.pager) (table_of a.engine.pager)) (view_of g a).tree Epoch (λ step w. w) (λ e. cc) h
-  worn_in_again a Flushes c known waits h = worn_in_step g a Flushes c known waits h
+  worn_in_again : (a : Volume D) (which : Counter) (c : Command) → is_known g a.engine.pager → IsWornIn g a.engine.pager c which → IsWornAgain which c (view_of g a).tree
+  worn_in_again a Count c known h = worn_in_step g a Count c known h
+  worn_in_again a NextId c known h = worn_in_step g a NextId c known h
+  worn_in_again a Level c known h = worn_in_step g a Level c known h
+  worn_in_again a Refs c known h = worn_in_step g a Refs c known h
+  worn_in_again a Epoch c known h =
+      never_counted (is_known g a.engine.pager × IsSound (nodes_of g a.engine.pager) (table_of a.engine.pager)) (view_of g a).tree c Epoch (λ step w. w) (λ e. cc) h
+  worn_in_again a Flushes c known h = worn_in_step g a Flushes c known h
 
   -- of a flush step
-  pub flush_again_fails : (m n : ℕ) (last : Bool) (a b : Volume D) (c : Command) (fault : MapFault) → waiting_limit c < (table_of a.engine.pager).size → (IsSoundOn g a.engine → IsSoundOn g b.engine)
-      → KeepsGood g a.engine b.engine → IsCause m n last (is_bad g b.engine.pager) (IsWornIn g a.engine.pager) fault → IsFlushFault g (fault_of fault) c a
-  flush_again_fails m n last a b c map.DeviceFault waits sound good h = tt
-  flush_again_fails m n last a b c (map.Damaged block) waits sound good h = bad_before g a.engine b.engine block good sound (bad_on g b.engine block h)
-  flush_again_fails m n last a b c (map.Worn which) waits sound good h = λ s. worn_in_again a which c s.known waits h
-  flush_again_fails m n last a b c map.NoMemory waits sound good h = tt
+  pub flush_again_fails : (m n : ℕ) (last : Bool) (a b : Volume D) (c : Command) (fault : MapFault) → (IsSoundOn g a.engine → IsSoundOn g b.engine)
+      → KeepsGood g a.engine b.engine → IsCause m n last (is_bad g b.engine.pager) (IsWornIn g a.engine.pager c) fault → IsFlushFault g (fault_of fault) c a
+  flush_again_fails m n last a b c map.DeviceFault sound good h = tt
+  flush_again_fails m n last a b c (map.Damaged block) sound good h = bad_before g a.engine b.engine block good sound (bad_on g b.engine block h)
+  flush_again_fails m n last a b c (map.Worn which) sound good h = λ s. worn_in_again a which c s.known h
+  flush_again_fails m n last a b c map.NoMemory sound good h = tt
 
   -- or of what is written before it
   pub device_flush_fails : (fault : Fault) (c : Command) (a : Volume D) → fault ≡ Device → IsFlushFault g fault c a
@@ -257,8 +258,8 @@ module _ {D : Type 0} (g : Ghosts D) where
       let low : flushed_on a.engine.flushes made ≤ a.engine.flushes + made = flushed_few a.engine.flushes made in
       omega (arith, low, few, same, h.counted)
 
-  pub has_flushed : (c : Command) (made : ℕ) (a b : Volume D) → FlushedOn c made a b → made ≤ flush_limit → IsSoundOn g a.engine → HasFlushedAgain c (view_of g a) (view_of g b)
-  has_flushed c made a b h few = λ s. record { made = made; flushed = h.flushed s; few = few }
+  pub has_flushed : (c : Command) (made : ℕ) (a b : Volume D) → FlushedOn c made a b → made ≤ flush_limit → IsSoundOn g a.engine → (made ≡ flush_limit) ⊎ IsSettledFor c (view_of g b).tree → HasFlushedAgain c (view_of g a) (view_of g b)
+  has_flushed c made a b h few s settled = record { made = made; flushed = h.flushed s; few = few; settled = settled }
 
   -- ---- faults of what it sends
 
@@ -331,7 +332,7 @@ module _ {D : Type 0} (g : Ghosts D) where
   }
 
   pub sends_again : (c : Command) (what : Sending) (a b d : View) → HasFlushedAgain c a b → b.tree.table.size ≤ waiting_limit c → HasSent what b.tree d.tree → OnlyNodes b d → SendsAgain c what a d
-  sends_again c what a b d h enough sent rest = record { made = h.made; mid = b; flushed = h.flushed; few = h.few; enough = enough; sent = sent; rest = rest }
+  sends_again c what a b d h enough sent rest = record { made = h.made; mid = b; flushed = h.flushed; few = h.few; enough = enough; settled = h.settled; sent = sent; rest = rest }
 
   pub has_replayed : (a d : Volume D) (t : Tree) (c : Command) (what : Sending) (plan : Plan) (reply : Reply) → IsCommand c → IsTrue (accepts plan) → IsPlan (keys_of g a.engine.pager) t c plan → sending (keys_of g a.engine.pager) t c ≡ what
       → HasTreeOn g a t → IsSoundOn g d.engine → TakesStep t c (keys_of g d.engine.pager) reply → SendsAgain c what (view_of g a) (view_of g d) → ReplaysOn g t c a d

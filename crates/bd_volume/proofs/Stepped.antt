@@ -1,14 +1,16 @@
 -- Steps of a command, one after the other.
 use Rattle.std.proofs.Common.{◌≡◌, ℕ, ◌+◌, ◌≤◌, sym, subst, arith, lit≤}
-use Rattle.std.specs.Prelude.{IsTrue, Result, Ok, Err, OnOk, OnErr}
+use Rattle.std.specs.Prelude.{◌⊎◌, IsTrue, Result, Ok, Err, OnOk, OnErr}
 use Rattle.bd_limits.specs.Limits.{flush_limit}
 use Rattle.bd_command.specs.Command.{writes}
 use Rattle.bd_command.specs.declared.Command.{Command}
 use Rattle.bd_message.specs.KeyMaps.{SameAt}
+use Rattle.bd_view.specs.Trees.{IsSettledFor}
 use Rattle.bd_view.specs.Views.{View, keys_of}
 use Rattle.bd_view.specs.Moves.{Saves, FlushesIn, AreSteps, HasStepped, CallsForSave}
 use Rattle.bd_view.specs.Moves.AreSteps.{none, flush, save}
 use Rattle.bd_view.proofs.Standing.{steps_stand}
+use Rattle.bd_volume.specs.Steps.{HasSettled}
 
 pub steps_then : (c : Command) (m n : ℕ) (a b d : View) → AreSteps c m a b → AreSteps c n b d → AreSteps c (m + n) a d
 steps_then c m n a b d p (none _) =
@@ -37,6 +39,9 @@ one_flush c a b d p step = flush 0 a b d p step
 
 pub has_stepped : (c : Command) (m : ℕ) (a b : View) → AreSteps c m a b → m ≤ flush_limit → HasStepped c a b
 has_stepped c m a b p few = record { made = m; steps = p; few = few }
+
+pub has_settled : (c : Command) (m : ℕ) (a b : View) → AreSteps c m a b → m ≤ flush_limit → (m ≡ flush_limit) ⊎ IsSettledFor c b.tree → HasSettled c a b
+has_settled c m a b p few settled = record { stepped = has_stepped c m a b p few; settled = settled }
 
 pub not_stepped : (c : Command) (a b : View) → b ≡ a → HasStepped c a b
 not_stepped c a b same = has_stepped c 0 a b (no_steps c a b same) (lit≤ tt)

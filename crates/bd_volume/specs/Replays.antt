@@ -20,7 +20,7 @@ use Rattle.bd_image.specs.Standing.{IsAsBefore}
 use Rattle.bd_checkpoint.specs.Kept.{AllAsBefore}
 use Rattle.bd_checkpoint.specs.declared.commands.PlacedCommand.{PlacedCommand}
 use Rattle.bd_checkpoint.specs.Recovering.{LeadsBy}
-use Rattle.bd_view.specs.Trees.{TreeView, HasSent, waiting_limit}
+use Rattle.bd_view.specs.Trees.{TreeView, IsSettledFor, HasSent, waiting_limit}
 use Rattle.bd_view.specs.Views.{View}
 use Rattle.bd_view.specs.Moves.{OnlyNodes, AreFlushedAgain, IsReplayed, AreReplayed}
 use Rattle.bd_engine.specs.Engines.{EngineState, keys_of, IsSoundOn, IsBadOn}
@@ -92,6 +92,7 @@ pub record SendsAgain (c : Command) (what : Sending) (old new : View) : Type 0 w
   pub flushed : AreFlushedAgain c made old mid
   pub few : made ≤ flush_limit
   pub enough : mid.tree.table.size ≤ waiting_limit c
+  pub settled : (made ≡ flush_limit) ⊎ IsSettledFor c mid.tree
   pub sent : HasSent what mid.tree new.tree
   pub rest : OnlyNodes mid new
 
@@ -105,9 +106,9 @@ pub record ReplaysOn {D : Type 0} (g : Ghosts D) (t : Tree) (c : Command) (old n
 -- the counter has no room for its next flush step
 abbrev pub IsWornAgain : Counter → Command → TreeView → Type 0
 IsWornAgain Count c v = ⊥
-IsWornAgain NextId c v = IsWornForStep NextId c 0 v
-IsWornAgain Level c v = IsWornForStep Level c 0 v
-IsWornAgain Refs c v = IsWornForStep Refs c 0 v
+IsWornAgain NextId c v = IsWornForStep NextId c v
+IsWornAgain Level c v = IsWornForStep Level c v
+IsWornAgain Refs c v = IsWornForStep Refs c v
 IsWornAgain Epoch c v = ⊥
 IsWornAgain Flushes c v = ⊥
 
@@ -119,11 +120,13 @@ pub record WearsAgain (which : Counter) (count : ℕ) (c : Command) (old : View)
   pub few : made ≤ flush_limit
   pub worn : IsWornInReplay which count c made last.tree
 
--- a command of the log made its flush steps
+-- a command of the log made its flush steps, and unless it made 65,536, none is due on the way of
+-- its graft's source
 pub record HasFlushedAgain (c : Command) (old new : View) : Type 0 where
   pub made : ℕ
   pub flushed : AreFlushedAgain c made old new
   pub few : made ≤ flush_limit
+  pub settled : (made ≡ flush_limit) ⊎ IsSettledFor c new.tree
 
 -- why a flush step of it isn't made: a block is bad, or a counter has no room
 abbrev pub IsFlushFault : {D : Type 0} → Ghosts D → Fault → Command → Volume D → Type 0

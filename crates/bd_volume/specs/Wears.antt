@@ -12,11 +12,10 @@ use Rattle.bd_device.specs.declared.device.Device.{Ghosts}
 use Rattle.bd_dirs.specs.Kinds.{Kind, Reads, Sends, SendsLate, Grafts, kind_of}
 use Rattle.bd_node.specs.Tables.{IsSound}
 use Rattle.bd_graft.specs.Grafting.{IsWornByGraft, IsWornForGraft}
-use Rattle.bd_step.specs.Steps.{IsWornToFlush}
 use Rattle.bd_cover.specs.declared.walking.Reclaim.{Reclaim}
 use Rattle.bd_reclaim.specs.Changes.{IsWornChange}
 use Rattle.bd_pager.specs.Pagers.{table_of}
-use Rattle.bd_view.specs.Trees.{TreeView, waiting_limit}
+use Rattle.bd_view.specs.Trees.{TreeView, IsWornToStep, waiting_limit}
 use Rattle.bd_super.specs.Live.{IsLive}
 use Rattle.bd_super.specs.declared.superblock.Super.{Super}
 use Rattle.bd_view.specs.Views.{View, keys_of}
@@ -26,19 +25,15 @@ use Rattle.bd_engine.specs.Engines.{EngineState, flushed_on, IsWornIn}
 use Rattle.bd_engine.specs.Reclaiming.{MayMake, IsWornToChange}
 use Rattle.bd_engine.specs.Stored.{IsFound}
 
--- the counter has no room for the flush step that is found, or 65,536 were made
-abbrev pub IsWornAfter : Counter → ℕ → TreeView → Type 0
-IsWornAfter Count made v = ⊥
-IsWornAfter NextId made v = IsWornToFlush (IsSound v.nodes v.table) v.nodes v.table NextId
-IsWornAfter Level made v = IsWornToFlush (IsSound v.nodes v.table) v.nodes v.table Level
-IsWornAfter Refs made v = IsWornToFlush (IsSound v.nodes v.table) v.nodes v.table Refs
-IsWornAfter Epoch made v = ⊥
-IsWornAfter Flushes made v = made ≡ flush_limit
+-- a flush step of a command is due, for which the counter has no room
+abbrev pub IsWornForStep : Counter → Command → TreeView → Type 0
+IsWornForStep which c v = IsWornToStep (IsSound v.nodes v.table) v.nodes v.table c which
 
--- a command made so many flush steps and needs one more, for which the counter has no room
-pub record IsWornForStep (which : Counter) (c : Command) (made : ℕ) (v : TreeView) : Type 0 where
+-- a command made so many flush steps, all that it may, and more bytes wait in the root than its
+-- limit
+pub record IsOutOfFlushes (c : Command) (made : ℕ) (v : TreeView) : Type 0 where
   pub waits : waiting_limit c < v.table.size
-  pub worn : IsWornAfter which made v
+  pub all : made ≡ flush_limit
 
 -- no more bytes wait than the command's limit, and the counter has no room for all that this graft
 -- adds
@@ -67,13 +62,13 @@ pub record IsWornForSave (c : Command) (v : View) : Type 0 where
 abbrev pub IsWornNow : Counter → ℕ → Command → ℕ → View → View → Type 0
 IsWornNow Count count c made old new = (2 ^ 64 ≤ count + 1) × (new ≡ old)
 IsWornNow NextId count c made old new =
-    IsWornForStep NextId c made new.tree ⊎ IsWornForSending NextId c new.tree
+    IsWornForStep NextId c new.tree ⊎ IsWornForSending NextId c new.tree
 IsWornNow Level count c made old new =
-    IsWornForStep Level c made new.tree ⊎ IsWornForSending Level c new.tree
+    IsWornForStep Level c new.tree ⊎ IsWornForSending Level c new.tree
 IsWornNow Refs count c made old new =
-    IsWornForStep Refs c made new.tree ⊎ IsWornForSending Refs c new.tree
+    IsWornForStep Refs c new.tree ⊎ IsWornForSending Refs c new.tree
 IsWornNow Epoch count c made old new = IsWornForSave c new
-IsWornNow Flushes count c made old new = IsWornForStep Flushes c made new.tree
+IsWornNow Flushes count c made old new = IsOutOfFlushes c made new.tree
 
 -- a writing command, after so many accepted ones, made flush steps and checkpoints from the first
 -- view to the second, and a counter has no room there
@@ -89,14 +84,13 @@ IsGraftKind Sends = ⊥
 IsGraftKind SendsLate = ⊥
 IsGraftKind (Grafts s d keep) = ⊤
 
--- a command needs one more flush step, for which the counter has no room, where the nodes may not be
+-- a flush step of a command is due, for which the counter has no room, where the nodes may not be
 -- known
-pub record ShowsWornStep {D : Type 0} (g : Ghosts D) (which : Counter) (c : Command)
-    (e : EngineState D) : Type 0 where
-  pub waits : waiting_limit c < (table_of e.pager).size
-  pub worn : IsWornIn g e.pager which
+abbrev pub ShowsWornStep : {D : Type 0} → Ghosts D → Counter → Command → EngineState D → Type 0
+ShowsWornStep g which c e = IsWornIn g e.pager c which
 
--- a command is a graft that needs no more flush steps, and for which the counter has no room
+-- a command is a graft, before which no more bytes wait in the root than its limit, and for which
+-- the counter has no room
 pub record ShowsWornMove {D : Type 0} (which : Counter) (c : Command) (e : EngineState D) : Type 0 where
   pub enough : (table_of e.pager).size ≤ waiting_limit c
   pub grafts : IsGraftKind (kind_of c)
@@ -111,8 +105,8 @@ ShowsWornIn g Refs c e = ShowsWornStep g Refs c e ⊎ ShowsWornMove Refs c e
 ShowsWornIn g Epoch c e = 2 ^ 64 ≤ e.live.epoch + 1
 ShowsWornIn g Flushes c e = ⊥
 
--- a command has made all the flush steps that it may, where so many were made before it, and needs
--- one more
+-- a command has made all the flush steps that it may, where so many were made before it, and more
+-- bytes wait in the root than its limit
 pub record HasFlushedAll {D : Type 0} (before : ℕ) (c : Command) (e : EngineState D) : Type 0 where
   pub made : e.flushes ≡ flushed_on before flush_limit
   pub waits : waiting_limit c < (table_of e.pager).size
@@ -133,12 +127,11 @@ ShowsWorn g Flushes count before c e = HasFlushedAll before c e
 -- flush steps, which led to this tree of nodes
 abbrev pub IsWornInReplay : Counter → ℕ → Command → ℕ → TreeView → Type 0
 IsWornInReplay Count count c made v = 2 ^ 64 ≤ count + 1
-IsWornInReplay NextId count c made v =
-    IsWornForStep NextId c made v ⊎ IsWornForSending NextId c v
-IsWornInReplay Level count c made v = IsWornForStep Level c made v ⊎ IsWornForSending Level c v
-IsWornInReplay Refs count c made v = IsWornForStep Refs c made v ⊎ IsWornForSending Refs c v
+IsWornInReplay NextId count c made v = IsWornForStep NextId c v ⊎ IsWornForSending NextId c v
+IsWornInReplay Level count c made v = IsWornForStep Level c v ⊎ IsWornForSending Level c v
+IsWornInReplay Refs count c made v = IsWornForStep Refs c v ⊎ IsWornForSending Refs c v
 IsWornInReplay Epoch count c made v = ⊥
-IsWornInReplay Flushes count c made v = IsWornForStep Flushes c made v
+IsWornInReplay Flushes count c made v = IsOutOfFlushes c made v
 
 -- of the commands of an image's open batches some were replayed, and for the next one a counter has
 -- no room

@@ -147,21 +147,25 @@ impl<D: Device> Volume<D> {
 
     /// Executes a command whose fields are within their limits. A writing command that is accepted
     /// first makes flush steps, one after the other, while more than 16,384 bytes of messages wait
-    /// in the root (for a `remove` or `truncate` more than 24,576), and a checkpoint where too few
-    /// slots are free for its next step; and before them all one where the log has no room for its
-    /// record, or where the image's version has no such record. Then its messages go into the root,
-    /// or its graft is made, and its record waits in the log for a sync. Before each of these steps
-    /// changed nodes are written early, while more than eight are in memory and slots are free: to
-    /// slots that the last checkpoint doesn't hold, so that what a crash leaves stands for the same.
+    /// in the root (for a `remove` or `truncate` more than 24,576), and where no more do, before a
+    /// `clone` or `rename`, while 1,024 bytes or more wait for its source on the way of that: at
+    /// most 65,536 steps; and a checkpoint where too few slots are free for its next step; and
+    /// before them all one where the log has no room for its record, or where the image's version
+    /// has no such record. Then its messages go into the root, or its graft is made, even if as much
+    /// still waits for its source after so many steps, and its record waits in the log for a sync.
+    /// Before each of these steps changed nodes are written early, while more than eight are in
+    /// memory and slots are free: to slots that the last checkpoint doesn't hold, so that what a
+    /// crash leaves stands for the same.
     ///
     /// `Full` comes only for such a command, where fewer slots are free than it needs and no
     /// checkpoint helps, with both numbers. So does `Worn`: of `Count` where the count of accepted
     /// commands stands at its last value, and then no step is made; of `Flushes` where
-    /// 65,536 steps were made and one more is needed; of `Epoch` where a checkpoint has no room; of
-    /// `NextId`, `Level` and `Refs` where a step or the graft has none. A fault leaves what the
-    /// volume stands for; flush steps and checkpoints that were made stay. With no checkpoint made
-    /// no block was written but those of slots that the last one doesn't hold, unless a write or a
-    /// barrier failed. A failed write or barrier stops the volume, and each later call is `Stopped`.
+    /// 65,536 steps were made and more bytes wait in the root than that limit; of `Epoch` where a
+    /// checkpoint has no room; of `NextId`, `Level` and `Refs` where a step or the graft has none. A
+    /// fault leaves what the volume stands for; flush steps and checkpoints that were made stay. With
+    /// no checkpoint made no block was written but those of slots that the last one doesn't hold,
+    /// unless a write or a barrier failed. A failed write or barrier stops the volume, and each later
+    /// call is `Stopped`.
     pub fn do_command(&mut self, command: &Command) -> Result<Reply, Fault>
         requires { IsCommand command.now }
         ensures step { IfOk result (λ reply. (t : Tree) (n : ℕ) → StandsFor D.Device self.old t n

@@ -1,6 +1,7 @@
 //! What commands ask of an engine's nodes, and do to them.
 
-ghost use Rattle.std.specs.Prelude.{◌≡◌, ◌≢◌, ◌↔◌, ◌≤◌, false, true, Ok, IsTrue, IfOk, IfErr, OnOk, OnErr};
+ghost use Rattle.std.specs.Prelude.{◌≡◌, ◌≢◌, ◌≤◌, false, true, None, Ok, IsTrue, IfOk, IfErr, OnOk, OnErr};
+ghost use Rattle.std.specs.Option.{option_copied};
 ghost use Rattle.bd_limits.specs.Limits.{late_limit};
 ghost use Rattle.bd_command.specs.Command.{writes, IsCommand, IsReply};
 ghost use Rattle.bd_model.specs.Tree.{Tree, IsTree};
@@ -8,14 +9,14 @@ ghost use Rattle.bd_model.specs.Step.{step};
 ghost use Rattle.bd_message.specs.KeyMaps.{NeverWorn, SameAt, IsApplied, IsGrafted};
 ghost use Rattle.bd_represent.specs.Plans.{IsSmallBatch};
 ghost use Rattle.bd_represent.specs.Represents.{Represents};
+ghost use Rattle.bd_dirs.specs.Kinds.{kind_of};
 ghost use Rattle.bd_dirs.specs.Plans.{HasSize, IsPlan, IsPlanKind, IsReady};
 ghost use Rattle.bd_dirs.specs.declared.plan.Plan.TheVariants as plan;
 ghost use Rattle.bd_node.specs.Steps.{HasGrown};
 ghost use Rattle.bd_graft.specs.Grafting.{IsWornForGraft, IsWornByGraft, OnWorn};
-ghost use Rattle.bd_step.specs.Steps.{IsFound};
 ghost use Rattle.bd_pager.specs.Pagers.{nodes_of, table_of};
 ghost use Rattle.bd_recall.specs.Kept.{findings, KeepsWritten};
-ghost use Rattle.bd_view.specs.Trees.{waiting_limit, FlushesFor, HasAppended, HasGrafted, IsWalked};
+ghost use Rattle.bd_view.specs.Trees.{waiting_limit, source_of, IsStepFound, FlushesFor, IsSettledFor, HasAppended, HasGrafted, IsWalked};
 ghost use Rattle.bd_engine.specs.Engines.{view_of, keys_of, IsSoundOn, flushes_after, HasCause, IsWornIn, IsReadOn, OnlyNodesOn};
 
 use super::Engine;
@@ -56,32 +57,38 @@ impl<D: Device> Engine<D> {
         plan_command(self.alloc, &mut self.tree, command)
     }
 
-    /// Makes a flush step of a writing command where more bytes wait in the root than its limit,
-    /// and says whether it did: the steps that were made are counted. What stands at the keys stays.
-    /// It writes nothing, and a fault leaves the view.
-    pub fn flush(&mut self, command: &Command) -> Result<bool, MapFault>
-        requires { IsTrue (writes command.now) }
-        ensures enough { (result ≡ Ok false)
-            ↔ ((table_of self.old.pager).size ≤ waiting_limit command.now) }
+    /// Makes a flush step of a writing command where more bytes wait in the root than its limit, and
+    /// else, before a graft, where 1,024 bytes or more wait for its source on the way of that, and
+    /// says whether it made one: the steps that were made are counted. What stands at the keys
+    /// stays. It writes nothing, and a fault leaves the view.
+    pub fn flush(&mut self, command: &Command, source: Option<&[u8]>) -> Result<bool, MapFault>
+        requires writes { IsTrue (writes command.now) }
+        requires source { option_copied source ≡ source_of (kind_of command.now) }
+        ensures enough { result ≡ Ok false
+            → (table_of self.old.pager).size ≤ waiting_limit command.now }
+        ensures idle { (table_of self.old.pager).size ≤ waiting_limit command.now
+            → source_of (kind_of command.now) ≡ None → result ≡ Ok false }
         ensures found { result ≡ Ok true
-            → IsFound (table_of self.old.pager) (table_of self.new.pager) }
+            → IsStepFound command.now (table_of self.old.pager) (table_of self.new.pager) }
         ensures counts { self.new.flushes ≡ flushes_after self.old.flushes result }
         ensures only { OnlyNodesOn D.Device self.old self.new }
         ensures walk { self.new.walk ≡ self.old.walk }
         ensures rest { result ≢ Ok true → IsReadOn D.Device self.old self.new }
         ensures cause { HasCause D.Device self.old.pager self.new.pager
-            (IsWornIn D.Device self.old.pager) result }
+            (IsWornIn D.Device self.old.pager command.now) result }
 
         // Where the nodes are known and sound.
         ensures flushes { IsSoundOn D.Device self.old → result ≡ Ok true
             → FlushesFor command.now (view_of D.Device self.old).tree
             (view_of D.Device self.new).tree }
+        ensures settled { IsSoundOn D.Device self.old → result ≡ Ok false
+            → IsSettledFor command.now (view_of D.Device self.old).tree }
         ensures sound { IsSoundOn D.Device self.old → IsSoundOn D.Device self.new }
         ensures same { IsSoundOn D.Device self.old
             → SameAt (keys_of D.Device self.old.pager) (keys_of D.Device self.new.pager) }
     {
         self.tree.map.store().nodes_are_placed();
-        let flushed = flush(&mut self.tree.map, command);
+        let flushed = flush(&mut self.tree.map, command, source);
         self.flushes = flushes_after(self.flushes, &flushed);
         self.tree.map.store().nodes_are_placed();
         flushed

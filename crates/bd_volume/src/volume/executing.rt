@@ -177,6 +177,7 @@ impl<D: Device> Volume<D> {
     fn send(&mut self, command: &Command, list: &[Message]) -> Result<(), Fault>
         requires logged { IsLogged command.now }
         requires small { IsSmallBatch list.now }
+        requires kind { IsPlanKind command.now (plan.Apply list.now) }
         requires going { stop_of self.old ≡ None }
         ensures sends { IsSoundOn D.Device self.old.engine → OnOk result (LogsIn command.now
             (Batch list.now) (view_of D.Device self.old) (view_of D.Device self.new)) }
@@ -201,7 +202,7 @@ impl<D: Device> Volume<D> {
         ensures ends { Ends D.Device self.old self.new result }
     {
         records_have_room();
-        self.make_ready(command)?;
+        self.make_ready(command, None)?;
         let appended = self.engine.append(list);
         self.engine.sound_nodes_are_undamaged();
         appended?;
@@ -239,7 +240,7 @@ impl<D: Device> Volume<D> {
         ensures ends { Ends D.Device self.old self.new result }
     {
         records_have_room();
-        self.make_ready(command)?;
+        self.make_ready(command, Some(s))?;
         let grafted = self.engine.graft(s, d, keep);
         self.engine.sound_nodes_are_undamaged();
         grafted?;

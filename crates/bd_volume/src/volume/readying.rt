@@ -1,15 +1,17 @@
 //! How a volume is made ready for a writing command.
 
 ghost use Rattle.std.specs.Prelude.{◌≡◌, ◌≢◌, ◌+◌, ◌^◌, ◌<◌, ◌≤◌, ◌⊎◌, true, false, None, Ok, IfErr, OnOk};
+ghost use Rattle.std.specs.Option.{option_copied};
 ghost use Rattle.bd_command.specs.Log.{IsLogged};
+ghost use Rattle.bd_dirs.specs.Kinds.{kind_of};
 ghost use Rattle.bd_pager.specs.Pagers.{table_of};
-ghost use Rattle.bd_view.specs.Trees.{waiting_limit};
+ghost use Rattle.bd_view.specs.Trees.{waiting_limit, source_of, IsSettledFor};
 ghost use Rattle.bd_view.specs.Views.{free_slots, need_slots};
 ghost use Rattle.bd_view.specs.Moves.{AreSteps, HasStepped, CannotSave};
 ghost use Rattle.bd_pager.specs.Counting.{memory_of, IsFull};
 ghost use Rattle.bd_engine.specs.Engines.{flushes_after, memory_limit, IsSoundOn};
 ghost use Rattle.bd_volume.specs.Volume.{view_of, count_of, stop_of};
-ghost use Rattle.bd_volume.specs.Steps.{Ends, ShowsStep, ShowsFault, KeepsStanding, HasLogRoom, IsStepFault, IsCommandFault};
+ghost use Rattle.bd_volume.specs.Steps.{Ends, ShowsStep, ShowsFault, KeepsStanding, HasLogRoom, HasSettled, IsStepFault, IsCommandFault};
 
 use super::Volume;
 use crate::fault::Fault;
@@ -23,12 +25,20 @@ use bd_view::laws::records_have_room;
 impl<D: Device> Volume<D> {
     // Makes the volume ready for a writing command that is accepted: one more can be counted, the
     // log has room for its record, flush steps are made while more bytes wait in the root than the
-    // command's limit, and slots are free for what it sends.
-    pub(crate) fn make_ready(&mut self, command: &Command) -> Result<(), Fault>
+    // command's limit, or before a graft 1,024 bytes or more for its source on the way of that, and
+    // slots are free for what it sends.
+    pub(crate) fn make_ready(
+        &mut self,
+        command: &Command,
+        source: Option<&[u8]>,
+    ) -> Result<(), Fault>
         requires logged { IsLogged command.now }
+        requires source { option_copied source ≡ source_of (kind_of command.now) }
         requires going { stop_of self.old ≡ None }
         ensures stepped { IsSoundOn D.Device self.old.engine → HasStepped command.now
             (view_of D.Device self.old) (view_of D.Device self.new) }
+        ensures settled { IsSoundOn D.Device self.old.engine → OnOk result (HasSettled
+            command.now (view_of D.Device self.old) (view_of D.Device self.new)) }
         ensures sound { IsSoundOn D.Device self.old.engine
             → IsSoundOn D.Device self.new.engine }
         ensures keeps { KeepsStanding D.Device self.old self.new }
@@ -54,7 +64,7 @@ impl<D: Device> Volume<D> {
         let _ = self.engine.flushes();
         self.make_log_room(command)?;
         for _made in 0..MAX_FLUSHES {
-            if !self.flush_step(command)? {
+            if !self.flush_step(command, source)? {
                 return Ok(());
             }
         }
@@ -99,14 +109,18 @@ impl<D: Device> Volume<D> {
     }
 
     // Makes room for a flush step, and makes it where more bytes wait in the root than the command's
-    // limit, and says whether it did.
-    fn flush_step(&mut self, command: &Command) -> Result<bool, Fault>
+    // limit, and else, before a graft, where 1,024 bytes or more wait for its source on the way of
+    // that, and says whether it did.
+    fn flush_step(&mut self, command: &Command, source: Option<&[u8]>) -> Result<bool, Fault>
         requires logged { IsLogged command.now }
+        requires source { option_copied source ≡ source_of (kind_of command.now) }
         requires going { stop_of self.old ≡ None }
         ensures flushed { IsSoundOn D.Device self.old.engine → result ≡ Ok true
             → AreSteps command.now 1 (view_of D.Device self.old) (view_of D.Device self.new) }
         ensures rest { IsSoundOn D.Device self.old.engine → result ≢ Ok true
             → AreSteps command.now 0 (view_of D.Device self.old) (view_of D.Device self.new) }
+        ensures settled { IsSoundOn D.Device self.old.engine → result ≡ Ok false
+            → IsSettledFor command.now (view_of D.Device self.new).tree }
         ensures sound { IsSoundOn D.Device self.old.engine
             → IsSoundOn D.Device self.new.engine }
         ensures keeps { KeepsStanding D.Device self.old self.new }
@@ -128,7 +142,7 @@ impl<D: Device> Volume<D> {
         ensures count_stays { count_of self.new ≡ count_of self.old }
     {
         self.make_room(command)?;
-        let flushed = self.engine.flush(command);
+        let flushed = self.engine.flush(command, source);
         self.engine.sound_nodes_are_undamaged();
         Ok(flushed?)
     }

@@ -1,16 +1,18 @@
 //! How a volume replays the commands of an image's log.
 
 ghost use Rattle.std.specs.Prelude.{◌≡◌, ◌≢◌, ◌+◌, ◌^◌, ◌<◌, ◌≤◌, [], true, false, None, Ok, All, IfErr, OnOk};
+ghost use Rattle.std.specs.Option.{option_copied};
 ghost use Rattle.bd_limits.specs.Limits.{flush_limit};
 ghost use Rattle.bd_command.specs.Log.{IsLogged};
 ghost use Rattle.bd_model.specs.Tree.{Tree};
 ghost use Rattle.bd_message.specs.KeyMaps.{SameAt, IsApplied, IsGrafted};
 ghost use Rattle.bd_pager.specs.Pagers.{table_of};
 ghost use Rattle.bd_represent.specs.Plans.{IsSmallBatch};
+ghost use Rattle.bd_dirs.specs.Kinds.{kind_of};
 ghost use Rattle.bd_dirs.specs.Plans.{IsPlan, IsPlanKind, IsReady};
 ghost use Rattle.bd_dirs.specs.Sendings.{Batch, Move};
 ghost use Rattle.bd_dirs.specs.declared.plan.Plan.TheVariants as plan;
-ghost use Rattle.bd_view.specs.Trees.{waiting_limit};
+ghost use Rattle.bd_view.specs.Trees.{waiting_limit, source_of, IsSettledFor};
 ghost use Rattle.bd_view.specs.Moves.{FlushesAgain, AreFlushedAgain};
 ghost use Rattle.bd_engine.specs.Engines.{keys_of, flushes_after, IsSoundOn};
 ghost use Rattle.bd_volume.specs.Volume.{view_of, without_walk, count_of, stop_of};
@@ -120,6 +122,7 @@ impl<D: Device> Volume<D> {
     fn append_again(&mut self, command: &Command, list: &[Message]) -> Result<(), Fault>
         requires logged { IsLogged command.now }
         requires small { IsSmallBatch list.now }
+        requires kind { IsPlanKind command.now (plan.Apply list.now) }
         requires going { stop_of self.old ≡ None }
         ensures sends { IsSoundOn D.Device self.old.engine → OnOk result (SendsAgain
             command.now (Batch list.now) (view_of D.Device self.old) (view_of D.Device self.new)) }
@@ -137,7 +140,7 @@ impl<D: Device> Volume<D> {
         ensures cause { HasReplayCause D.Device self.old self.new result }
         ensures count_stays { count_of self.new ≡ count_of self.old }
     {
-        self.flush_again(command)?;
+        self.flush_again(command, None)?;
         Ok(self.engine.append(list)?)
     }
 
@@ -170,14 +173,15 @@ impl<D: Device> Volume<D> {
         ensures cause { HasReplayCause D.Device self.old self.new result }
         ensures count_stays { count_of self.new ≡ count_of self.old }
     {
-        self.flush_again(command)?;
+        self.flush_again(command, Some(s))?;
         Ok(self.engine.graft(s, d, keep)?)
     }
 
-    // Makes flush steps while more bytes wait in the root than the limit of a command of the log.
-    // They need no slots.
-    fn flush_again(&mut self, command: &Command) -> Result<(), Fault>
+    // Makes flush steps while more bytes wait in the root than the limit of a command of the log, or
+    // before a graft 1,024 bytes or more for its source on the way of that. They need no slots.
+    fn flush_again(&mut self, command: &Command, source: Option<&[u8]>) -> Result<(), Fault>
         requires logged { IsLogged command.now }
+        requires source { option_copied source ≡ source_of (kind_of command.now) }
         requires going { stop_of self.old ≡ None }
         ensures flushed { IsSoundOn D.Device self.old.engine → OnOk result
             (HasFlushedAgain command.now (view_of D.Device self.old) (view_of D.Device self.new)) }
@@ -199,7 +203,7 @@ impl<D: Device> Volume<D> {
     {
         let _ = self.engine.flushes();
         for _made in 0..MAX_FLUSHES {
-            if !self.flush_once(command)? {
+            if !self.flush_once(command, source)? {
                 return Ok(());
             }
         }
@@ -210,14 +214,18 @@ impl<D: Device> Volume<D> {
     }
 
     // Writes changed nodes early, makes a flush step where more bytes wait in the root than the limit
-    // of a command of the log, and says whether it did.
-    fn flush_once(&mut self, command: &Command) -> Result<bool, Fault>
+    // of a command of the log, and else, before a graft, where 1,024 bytes or more wait for its source
+    // on the way of that, and says whether it did.
+    fn flush_once(&mut self, command: &Command, source: Option<&[u8]>) -> Result<bool, Fault>
         requires logged { IsLogged command.now }
+        requires source { option_copied source ≡ source_of (kind_of command.now) }
         requires going { stop_of self.old ≡ None }
         ensures flushed { IsSoundOn D.Device self.old.engine → result ≡ Ok true
             → FlushesAgain command.now (view_of D.Device self.old) (view_of D.Device self.new) }
         ensures rest { IsSoundOn D.Device self.old.engine → result ≢ Ok true
             → view_of D.Device self.new ≡ view_of D.Device self.old }
+        ensures settled { IsSoundOn D.Device self.old.engine → result ≡ Ok false
+            → IsSettledFor command.now (view_of D.Device self.new).tree }
         ensures same { IsSoundOn D.Device self.old.engine
             → SameAt (keys_of D.Device self.old.engine.pager)
             (keys_of D.Device self.new.engine.pager) }
@@ -236,6 +244,6 @@ impl<D: Device> Volume<D> {
         ensures count_stays { count_of self.new ≡ count_of self.old }
     {
         self.spill()?;
-        Ok(self.engine.flush(command)?)
+        Ok(self.engine.flush(command, source)?)
     }
 }

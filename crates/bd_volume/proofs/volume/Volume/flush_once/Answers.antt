@@ -1,11 +1,11 @@
 -- Nodes are written early, a flush step is one of the command's, and a fault has its cause.
-use Rattle.std.proofs.Common.{◌≡◌, ℕ, true, ap, sym, subst, ◌∙◌}
+use Rattle.std.proofs.Common.{◌≡◌, ℕ, true, false, ap, sym, subst, ◌∙◌}
 use Rattle.std.specs.Prelude.{Ok}
 use Rattle.std.proofs.lemmas.Result.{err_from_is_err_and}
+use Rattle.bd_view.specs.Trees.{IsSettledFor}
 use Rattle.bd_view.specs.Views.{View}
 use Rattle.bd_view.specs.Moves.{FlushesAgain}
 use Rattle.bd_engine.specs.Engines.{flushes_after, IsWornIn}
-use Rattle.bd_engine.proofs.Left.{step_waits}
 use Rattle.bd_volume.specs.declared.volume.Volume.{Volume}
 use Rattle.bd_volume.specs.declared.fault.Fault.{Fault}
 use Rattle.bd_volume.specs.Steps.{ShowsStep}
@@ -48,7 +48,7 @@ returns-in_err-flush-clause-fails g c =
     let a : Volume g.row.D.Denot = c.spill.new.self in
     let b : Volume g.row.D.Denot = record a { engine = c.flush.new.self } in
     rw (p.1, p.2) (early_flush_fails g.D.Device _ c.args.command.now c.args.self.now a (good_early g.D.Device c.args.self.now.engine a.engine k.early) k.sound k.view
-    (flush_again_fails g.D.Device _ _ _ a b c.args.command.now c.in_err-flush.field-0.0 (step_waits _ _ _ (λ e. cc) h.enough) h.sound (good_kept g.D.Device a.engine b.engine h.only.keeps) h.cause.failed))
+    (flush_again_fails g.D.Device _ _ _ a b c.args.command.now c.in_err-flush.field-0.0 h.sound (good_kept g.D.Device a.engine b.engine h.only.keeps) h.cause.failed))
 
 pub returns-in_err-flush-clause-rest : goal.returns-in_err-flush-clause-rest
 returns-in_err-flush-clause-rest g c = λ s off. (c.in_err-flush.ensures.rest (λ e. cc)).view ∙ c.in_ok-spill.ensures.view s
@@ -69,7 +69,7 @@ returns-in_err-flush-clause-cause g c =
     let p = err_from_is_err_and c.from_residual-in_err-flush.result c.from_residual-in_err-flush.ensures.1 in
     let a : Volume g.row.D.Denot = c.spill.new.self in
     let b : Volume g.row.D.Denot = record a { engine = c.flush.new.self } in
-    rw (p.1, p.2) (cause_then g.D.Device _ c.args.self.now a b c.in_ok-spill.ensures.ends.cause.kept (cause_map g.D.Device a b (IsWornIn g.D.Device a.engine.pager) c.in_err-flush.field-0.0 c.in_err-flush.ensures.cause))
+    rw (p.1, p.2) (cause_then g.D.Device _ c.args.self.now a b c.in_ok-spill.ensures.ends.cause.kept (cause_map g.D.Device a b (IsWornIn g.D.Device a.engine.pager c.args.command.now) c.in_err-flush.field-0.0 c.in_err-flush.ensures.cause))
 
 -- ---- it is made, or none is needed
 
@@ -89,6 +89,12 @@ returns-clause-rest g c = λ s off.
     let on : c.in_ok-flush.field-0 ≡ true = cc in
     off (ap Ok on)) in
     other.view ∙ c.in_ok-spill.ensures.view s
+
+pub returns-clause-settled : goal.returns-clause-settled
+returns-clause-settled g c = λ s is.
+    let h = c.in_ok-flush.ensures in
+    let off : c.in_ok-flush.field-0 ≡ false = cc in
+    subst (λ (v : View). IsSettledFor c.args.command.now v.tree) (sym (h.rest (λ e. cc)).view) (h.settled (c.in_ok-spill.ensures.sound s) (ap Ok off))
 
 pub returns-clause-same : goal.returns-clause-same
 returns-clause-same g c = λ s k. c.in_ok-flush.ensures.same (c.in_ok-spill.ensures.sound s) k ∙ early_keys g.D.Device c.args.self.now c.spill.new.self (c.in_ok-spill.ensures.view s) k
@@ -125,7 +131,7 @@ returns-in_err-flush-clause-shows g c =
     let h = c.in_err-flush.ensures in
     let a : Volume g.row.D.Denot = c.spill.new.self in
     let b : Volume g.row.D.Denot = record a { engine = c.flush.new.self } in
-    rw (p.1, p.2) (flush_shows g.D.Device _ _ _ a b c.args.command.now c.in_err-flush.field-0.0 (step_waits _ _ _ (λ e. cc) h.enough) (h.rest (λ e. cc)).read h.cause.failed)
+    rw (p.1, p.2) (flush_shows g.D.Device _ _ _ a b c.args.command.now c.in_err-flush.field-0.0 (h.rest (λ e. cc)).read h.cause.failed)
 
 pub returns-in_err-flush-clause-counted : goal.returns-in_err-flush-clause-counted
 returns-in_err-flush-clause-counted g c =

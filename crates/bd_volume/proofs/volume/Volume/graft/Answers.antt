@@ -11,11 +11,14 @@ use Rattle.bd_volume.proofs.Called.{went_on, goes_then, ends_then, ends_logged, 
 use Rattle.bd_volume.proofs.Faulted.{graft_halts, graft_shows}
 use Rattle.bd_volume.proofs.Keeping.{keeps_then, keeps_read, logs_on}
 use Rattle.bd_volume.proofs.Room.{room_nodes}
-use Rattle.bd_volume.proofs.Sent.{grafted_over}
+use Rattle.bd_volume.proofs.Sent.{graft_source, grafted_over}
 use Rattle.bd_volume.proofs.Stepped.{stepped_stand}
 use Rattle.bd_volume.proofs.Read.{logged_sound}
 use Rattle.bd_volume.proofs.Writes.{writes_read, writes_nodes}
 use Rattle.bd_volume.proofs.volume.Volume.graft.Goals as goal
+
+pub make_ready-requires-clause-source : goal.make_ready-requires-clause-source
+make_ready-requires-clause-source g c = graft_source c.args.command.now c.args.s.now c.args.d.now c.args.keep c.requires.kind
 
 pub returns-in_err-grafted-clause-fails : goal.returns-in_err-grafted-clause-fails
 returns-in_err-grafted-clause-fails g c = λ s.
@@ -80,8 +83,9 @@ returns-clause-sends g c = λ s.
       last = view_of g.D.Device b;
       sends = record {
         mid = view_of g.D.Device a;
-        stepped = ready.stepped s;
+        stepped = (ready.settled s).stepped;
         enough = ready.enough;
+        settled = (ready.settled s).settled;
         room = ready.room;
         sent = h.grafts sound;
         rest = h.only.view sound.known;

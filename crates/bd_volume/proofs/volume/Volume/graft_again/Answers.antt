@@ -11,8 +11,11 @@ use Rattle.bd_volume.proofs.Early.{early_goes, goes_ok, goes_both, goes_nodes}
 use Rattle.bd_volume.proofs.Bad.{good_both, good_kept}
 use Rattle.bd_volume.proofs.Faulted.{graft_shows}
 use Rattle.bd_volume.proofs.Replayed.{cause_map, cause_ok, cause_then, graft_fails, sends_again}
-use Rattle.bd_volume.proofs.Sent.{grafted_over}
+use Rattle.bd_volume.proofs.Sent.{graft_source, grafted_over}
 use Rattle.bd_volume.proofs.volume.Volume.graft_again.Goals as goal
+
+pub flush_again-requires-clause-source : goal.flush_again-requires-clause-source
+flush_again-requires-clause-source g c = graft_source c.args.command.now c.args.s.now c.args.d.now c.args.keep c.requires.kind
 
 pub returns-in_err-graft-clause-fails : goal.returns-in_err-graft-clause-fails
 returns-in_err-graft-clause-fails g c =

@@ -1,5 +1,5 @@
 -- Each step is one more, and a fault leaves the steps before it.
-use Rattle.std.proofs.Common.{◌≡◌, ℕ, ◌<◌, Bool, refl, ap, ◌∙◌, arith}
+use Rattle.std.proofs.Common.{◌≡◌, ℕ, ◌<◌, Bool, refl, ap, ◌∙◌, inl, inr, arith}
 use Rattle.std.specs.Prelude.{Result, Ok}
 use Rattle.std.proofs.lemmas.Result.{err_from_is_err_and}
 use Rattle.bd_limits.specs.Limits.{flush_limit}
@@ -13,7 +13,7 @@ use Rattle.bd_volume.specs.Volume.{view_of}
 use Rattle.bd_volume.proofs.Called.{went_on, goes_then, ends_then, ends_err, ends_well, ends_worn}
 use Rattle.bd_volume.proofs.Faulted.{step_halts, count_worn, flushes_worn, step_shows}
 use Rattle.bd_volume.proofs.Keeping.{keeps_none, keeps_then}
-use Rattle.bd_volume.proofs.Stepped.{steps_then, steps_saved, has_stepped, not_stepped}
+use Rattle.bd_volume.proofs.Stepped.{steps_then, steps_saved, has_stepped, has_settled, not_stepped}
 use Rattle.bd_volume.proofs.volume.Volume.make_ready.Goals as goal
 
 pub returns-then-self-clause-stepped : goal.returns-then-self-clause-stepped
@@ -81,6 +81,16 @@ returns-then-not-branch-clause-stepped g c = λ s.
     (steps_saved c.args.command.now c.loop-made._made old (view_of g.D.Device c.loop-made.self) new (i.steps s) (c.in_ok-flush_step.ensures.rest (i.sound s) (λ e. cc)))
     (omega (arith, c.loop-made-test.true))
 
+pub returns-then-not-branch-clause-settled : goal.returns-then-not-branch-clause-settled
+returns-then-not-branch-clause-settled g c = λ s.
+    let old = view_of g.D.Device c.args.self.now in
+    let new = view_of g.D.Device c.flush_step.new.self in
+    let i = c.loop-made.invariant in
+    let off = c.if-not-branch.true in
+    has_settled c.args.command.now c.loop-made._made old new
+    (steps_saved c.args.command.now c.loop-made._made old (view_of g.D.Device c.loop-made.self) new (i.steps s) (c.in_ok-flush_step.ensures.rest (i.sound s) (λ e. cc)))
+    (omega (arith, c.loop-made-test.true)) (inr (c.in_ok-flush_step.ensures.settled (i.sound s) (ap Ok off)))
+
 pub loop-made-preserved : goal.loop-made-preserved
 loop-made-preserved g c =
     let i = c.loop-made.invariant in
@@ -124,6 +134,16 @@ returns-then-root_size-waiting_limit-clause-stepped g c = λ s.
     has_stepped c.args.command.now c.loop-made._made old new
     (steps_saved c.args.command.now c.loop-made._made old (view_of g.D.Device c.loop-made.self) new (i.steps s) (c.in_ok-make_room.ensures.steps (i.sound s)))
     (omega (arith, c.loop-made.auto._made-end))
+
+pub returns-then-root_size-waiting_limit-clause-settled :
+    goal.returns-then-root_size-waiting_limit-clause-settled
+returns-then-root_size-waiting_limit-clause-settled g c = λ s.
+    let old = view_of g.D.Device c.args.self.now in
+    let new = view_of g.D.Device c.make_room.new.self in
+    let i = c.loop-made.invariant in
+    has_settled c.args.command.now c.loop-made._made old new
+    (steps_saved c.args.command.now c.loop-made._made old (view_of g.D.Device c.loop-made.self) new (i.steps s) (c.in_ok-make_room.ensures.steps (i.sound s)))
+    (omega (arith, c.loop-made.auto._made-end)) (inl (omega (arith, c.loop-made.auto._made-end, c.loop-made-test.false)))
 
 pub returns-clause-stepped : goal.returns-clause-stepped
 returns-clause-stepped g c = λ s.
