@@ -1,0 +1,10 @@
+pub mod KeyOrder
+pub mod Below
+pub mod Growing
+pub mod Steps
+pub mod Nexts
+pub mod Texts
+pub mod Passing
+pub mod OneVerdict
+pub mod Numbers
+pub mod Options
