@@ -41,7 +41,7 @@ pub has_stepped : (c : Command) (m : ℕ) (a b : View) → AreSteps c m a b → 
 has_stepped c m a b p few = record { made = m; steps = p; few = few }
 
 pub has_settled : (c : Command) (m : ℕ) (a b : View) → AreSteps c m a b → m ≤ flush_limit → (m ≡ flush_limit) ⊎ IsSettledFor c b.tree → HasSettled c a b
-has_settled c m a b p few settled = record { stepped = has_stepped c m a b p few; settled = settled }
+has_settled c m a b p few settled = record { stepped = record { made = m; steps = p; few = few }; settled = settled }
 
 pub not_stepped : (c : Command) (a b : View) → b ≡ a → HasStepped c a b
 not_stepped c a b same = has_stepped c 0 a b (no_steps c a b same) (lit≤ tt)
