@@ -132,13 +132,13 @@ module _ (t : StoredTable) (are : AreTableEntries t.next_id t.root t.entries) wh
       (sym (names_listed (nodes_in image t) (table_of t (nodes_in image t)) (ids_of t.entries) (are_ids (nodes_in image t)) (no_node image) c))
 
   pub miscounted : (image : Image) (id : ℕ) → IsLeastWrong (named_so_far (nodes_in image t) t (ids_of t.entries)) t.entries id → IsMiscounted image t id
-  miscounted image id least =
-      let named : ℕ → ℕ = named_so_far (nodes_in image t) t (ids_of t.entries) in
-      record {
-        entry = least.entry;
-        found = subst (λ (i : ℕ). entry_of t.entries i ≡ Some least.entry) least.id_is (entry_found t.entries least.entry are.rising least.among);
-        wrong = λ same. least.wrong (same ∙ sym (all_named image id) ∙ ap named (sym least.id_is));
-      }
+  miscounted image id least = record {
+    entry = least.entry;
+    among = least.among;
+    id_is = least.id_is;
+    wrong = λ same. least.wrong (same ∙ sym (all_named image least.entry.id));
+    least = λ k d within below. least.least k d within below ∙ all_named image (get_or t.entries k d).id;
+  }
 
 module _ (decodes : (n : Node) (bytes : List ℕ) → IsShape n → IsImage n bytes → node_in bytes ≡ Some n) (image : Image) (t : StoredTable) (good : HaveGoodNodes image t) where
   pub held : HoldsNodes image t (nodes_in image t)

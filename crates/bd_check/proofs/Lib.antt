@@ -1,1 +1,3 @@
 pub mod EntryNodes
+pub mod GoodAnswers
+pub mod SlotReads

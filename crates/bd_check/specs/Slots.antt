@@ -1,5 +1,5 @@
 -- The nodes that the slots of a table's entries encode.
-use Rattle.std.specs.Prelude.{◌≡◌, ◌≢◌, ℕ, List, map, Option, None, Some}
+use Rattle.std.specs.Prelude.{◌≡◌, ℕ, List, map, Option, None, Some}
 use Rattle.bd_device.specs.Blocks.{Image}
 use Rattle.bd_tails.specs.Tails.{slot_bytes}
 use Rattle.bd_format.specs.Decoding.{node_in}
@@ -10,6 +10,7 @@ use Rattle.bd_node.specs.Tables.{references}
 use Rattle.bd_table.specs.Entries.{entry_of, level_at}
 use Rattle.bd_table.specs.declared.table.Table.{Table as StoredTable}
 use Rattle.bd_table.specs.declared.table.TableEntry.{TableEntry}
+use Rattle.bd_tally.specs.Seen.{IsLeastWrong}
 
 -- the ids of entries
 abbrev pub ids_of : List TableEntry → List ℕ
@@ -29,8 +30,7 @@ abbrev pub HaveGoodNodes : Image → StoredTable → Type 0
 HaveGoodNodes image t = (e : TableEntry) → entry_of t.entries e.id ≡ Some e
     → (n : Node) × IsGoodNode image (level_at t.entries) e.slot e.level n
 
--- the node of this id isn't named as often as its entry says
-pub record IsMiscounted (image : Image) (t : StoredTable) (id : ℕ) : Type 0 where
-  pub entry : TableEntry
-  pub found : entry_of t.entries id ≡ Some entry
-  pub wrong : entry.refs ≢ references (nodes_in image t) t.next_id t.root id
+-- the id is the least one of an entry whose references aren't how often its node is named
+abbrev pub IsMiscounted : Image → StoredTable → ℕ → Type 0
+IsMiscounted image t id =
+    IsLeastWrong (references (nodes_in image t) t.next_id t.root) t.entries id

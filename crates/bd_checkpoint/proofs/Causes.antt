@@ -16,10 +16,11 @@ use Rattle.bd_super.specs.Live.{IsLive, IsDamaged}
 use Rattle.bd_super.specs.declared.superblock.Super.{Super}
 use Rattle.bd_pager.specs.Opened.{IsBadStart}
 use Rattle.bd_image.specs.ImageTree.{ImageStandsFor}
-use Rattle.bd_image.specs.Damage.{IsBadAt}
-use Rattle.bd_image.specs.Damage.IsBadAt.{bad_super, bad_table, bad_node}
-use Rattle.bd_checkpoint.specs.Resuming.{IsBadUnder}
-use Rattle.bd_checkpoint.specs.Recovering.{OnlySettles, HasSettled, FailsFirst, IsBadIn}
+use Rattle.bd_image.specs.Damage.{IsFoundBad, IsBadAt}
+use Rattle.bd_image.specs.Damage.IsFoundBad.{bad_super, bad_table, bad_node}
+use Rattle.bd_image.specs.Damage.IsBadAt.{found_bad}
+use Rattle.bd_checkpoint.specs.Resuming.{IsFoundUnder}
+use Rattle.bd_checkpoint.specs.Recovering.{OnlySettles, HasSettled, FailsFirst, IsBadIn, IsFoundIn}
 use Rattle.bd_table.proofs.EntryLemmas.{entry_found}
 
 -- ---- what stays
@@ -75,24 +76,28 @@ cause_on g old mid new bad worse DeviceFault same f h = record { one = h.one ∙
 cause_on g old mid new bad worse (Damaged b) same f h = (f b h.0, h.1 ∙ same)
 cause_on g old mid new bad worse NoMemory same f h = h ∙ same
 
-pub bad_superblock : (known : Option Image) (b : ℕ) → IfSome known (λ image. IsDamaged image b) → IsBadIn known b
+pub bad_superblock : (known : Option Image) (b : ℕ) → IfSome known (λ image. IsDamaged image b) → IsFoundIn known b
 bad_superblock None b h = tt
 bad_superblock (Some image) b h = bad_super b h
 
-pub bad_start : (known : Option Image) (s : Super) → IfSome known (λ image. IsLive image s) → (b : ℕ) → IsBadStart known s.slots s.table b → IsBadIn known b
+pub bad_start : (known : Option Image) (s : Super) → IfSome known (λ image. IsLive image s) → (b : ℕ) → IsBadStart known s.slots s.table b → IsFoundIn known b
 bad_start None s live b h = tt
-bad_start (Some image) s live b (inl (same, none)) = subst (λ (x : ℕ). IsBadAt image x) (sym same) (bad_table s live none)
+bad_start (Some image) s live b (inl (same, none)) = subst (λ (x : ℕ). IsFoundBad image x) (sym same) (bad_table s live none)
 bad_start (Some image) s live b (inr bad) =
-    subst (λ (x : ℕ). IsBadAt image x) (sym bad.block)
+    subst (λ (x : ℕ). IsFoundBad image x) (sym bad.block)
     (bad_node s bad.table bad.entry (record { live = live; table = bad.held; entry = entry_found bad.table.entries bad.entry bad.held.0.entries.rising bad.among }) (λ n good. bad.none n good.held))
 
-pub bad_log : (known : Option Image) (s : Super) → IfSome known (λ image. IsLive image s) → (b : ℕ) → IsBadUnder known s b → IsBadIn known b
+pub bad_log : (known : Option Image) (s : Super) → IfSome known (λ image. IsLive image s) → (b : ℕ) → IsFoundUnder known s b → IsFoundIn known b
 bad_log None s live b h = tt
 bad_log (Some image) s live b h = h live
 
+pub found_is_bad : (known : Option Image) (b : ℕ) → IsFoundIn known b → IsBadIn known b
+found_is_bad None b h = tt
+found_is_bad (Some image) b h = found_bad b h
+
 -- no image that stands for a tree is damaged
 pub no_damage : ((image : Image) (tree : Tree) (count b : ℕ) → ImageStandsFor tree count image → ¬ IsBadAt image b) → {D : Type 0} (g : Ghosts D) (old new : D) (known : Option Image) (fault : ImageFault)
-    → IsImageCause g old new (IsBadIn known) fault → (tree : Tree) (count : ℕ) → IsSomeAnd known (ImageStandsFor tree count) → (block : ℕ) → fault ≢ Damaged block
+    → IsImageCause g old new (IsFoundIn known) fault → (tree : Tree) (count : ℕ) → IsSomeAnd known (ImageStandsFor tree count) → (block : ℕ) → fault ≢ Damaged block
 no_damage law g old new None fault cause tree count stands block same = absurd stands
 no_damage law g old new (Some image) fault cause tree count stands block same =
-    law image tree count block stands (subst (λ (f : ImageFault). IsImageCause g old new (IsBadIn (Some image)) f) same cause).0
+    law image tree count block stands (found_bad block (subst (λ (f : ImageFault). IsImageCause g old new (IsFoundIn (Some image)) f) same cause).0)

@@ -6,6 +6,7 @@ use Rattle.std.proofs.lemmas.Bool.{cases_eq}
 use Rattle.std.proofs.lemmas.List.{get_or-map, length-map}
 use Rattle.std.proofs.lemmas.List.Elements.{recursion_from_All, Contains-append_right}
 use Rattle.std.proofs.lemmas.Option.{same_Some, slice_get-get_or}
+use Rattle.bd_slots.specs.Layout.{slot_block}
 use Rattle.bd_device.specs.Blocks.{Image}
 use Rattle.bd_device.specs.declared.device.Device.{Ghosts}
 use Rattle.bd_format.specs.Images.{IsImage}
@@ -32,7 +33,8 @@ use Rattle.bd_pager.proofs.OpenedLemmas.{search_id, slot_within}
 use Rattle.bd_table.specs.Entries.{entry_of}
 use Rattle.bd_image.specs.Stored.{IsNodeAt, HoldsNodes}
 use Rattle.bd_image.specs.Damage.{IsBadAt}
-use Rattle.bd_image.specs.Damage.IsBadAt.{bad_node}
+use Rattle.bd_image.specs.Damage.IsFoundBad.{bad_node}
+use Rattle.bd_image.specs.Damage.IsBadAt.{found_bad}
 use Rattle.bd_checkpoint.specs.Recovering.{AreStored}
 use Rattle.bd_table.proofs.EntryLemmas.{entry_found, no_entry}
 use Rattle.bd_checkpoint.proofs.Slotted.{IsSpotOf, HasSpot, nodes_held, table_is}
@@ -158,7 +160,7 @@ module _ {D : Type 0} (g : Ghosts D) (decoded : AreDecoded) (image : Image) (slo
           let e : TableEntry = found.0 in
           let mine : IsBadSlot (Some image) e.slot e.level b = subst (λ (o : Option Spot). IsBadSpot (Some image) o b) (other_there id other e found.1 found.2) bad in
           subst (λ (k : ℕ). IsBadAt image k) (sym mine.0)
-          (bad_node live p.saved e (record { live = is_live; table = held; entry = found_of e found.1 }) (λ n good. mine.1 n good.held))
+          (found_bad (slot_block e.slot) (bad_node live p.saved e (record { live = is_live; table = held; entry = found_of e found.1 }) (λ n good. mine.1 n good.held)))
     ]
   ]
 

@@ -21,11 +21,11 @@ use Rattle.bd_log.specs.declared.batch.Batch.{Batch}
 use Rattle.bd_image.specs.Versions.{version_of}
 use Rattle.bd_image.specs.Synced.{IsLogOf}
 use Rattle.bd_image.specs.Damage.{placed_records}
-use Rattle.bd_image.specs.Damage.IsBadAt.{bad_batch, bad_record}
+use Rattle.bd_image.specs.Damage.IsFoundBad.{bad_batch, bad_record}
 use Rattle.bd_checkpoint.specs.Commands.{records_for, StopsAt, IsCommandFault}
 use Rattle.bd_checkpoint.specs.Kept.{IsOpen}
 use Rattle.bd_checkpoint.specs.Following.{HasTableOf, saved_by}
-use Rattle.bd_checkpoint.specs.Resuming.{IsBadUnder}
+use Rattle.bd_checkpoint.specs.Resuming.{IsFoundUnder}
 use Rattle.bd_checkpoint.proofs.Published.{of_left}
 
 pub log_half : (half : Half) → IsLogHalf (log_block half)
@@ -35,26 +35,26 @@ log_half B = inr refl
 -- ---- the block
 
 -- a broken batch
-broken_batch : (known : Option Image) (live : Super) (b : ℕ) → IfSome known (λ image. IsDamagedAt image (log_block live.half) live.epoch b) → IsBadUnder known live b
+broken_batch : (known : Option Image) (live : Super) (b : ℕ) → IfSome known (λ image. IsDamagedAt image (log_block live.half) live.epoch b) → IsFoundUnder known live b
 broken_batch None live b damaged = tt
 broken_batch (Some image) live b damaged = λ is. bad_batch live b is damaged
 
 pub batch_cause : {D : Type 0} (g : Ghosts D) (old new : D) (known : Option Image) (live : Super) (fault : ImageFault)
-    → IsImageCause g old new (λ b. IfSome known (λ image. IsDamagedAt image (log_block live.half) live.epoch b)) fault → IsImageCause g old new (IsBadUnder known live) fault
+    → IsImageCause g old new (λ b. IfSome known (λ image. IsDamagedAt image (log_block live.half) live.epoch b)) fault → IsImageCause g old new (IsFoundUnder known live) fault
 batch_cause g old new known live DeviceFault h = h
 batch_cause g old new known live NoMemory h = h
 batch_cause g old new known live (Damaged b) h = (broken_batch known live b h.0, h.1)
 
 -- a record of no command
 no_command : (known : Option Image) (live : Super) (batches : List Batch) (place b : ℕ) → IfSome known (λ image. AreBatches image (log_block live.half) live.epoch batches place)
-    → StopsAt (version_of live) (placed_records batches) b → IsBadUnder known live b
+    → StopsAt (version_of live) (placed_records batches) b → IsFoundUnder known live b
 no_command None live batches place b logged h = tt
 no_command (Some image) live batches place b logged h = λ is.
     bad_record live (records_for h.front) b h.bytes (record { live = is; batches = batches; place = place; logged = logged; rest = h.rest; there = h.there }) h.none
 
 pub command_cause : {D : Type 0} (g : Ghosts D) (old new : D) (known : Option Image) (live : Super) (batches : List Batch) (place : ℕ) (fault : ImageFault)
     → IfSome known (λ image. AreBatches image (log_block live.half) live.epoch batches place) → g.fault_count new ≡ g.fault_count old
-    → IsCommandFault (version_of live) (placed_records batches) fault → IsImageCause g old new (IsBadUnder known live) fault
+    → IsCommandFault (version_of live) (placed_records batches) fault → IsImageCause g old new (IsFoundUnder known live) fault
 command_cause g old new known live batches place DeviceFault logged kept h = absurd h
 command_cause g old new known live batches place NoMemory logged kept h = kept
 command_cause g old new known live batches place (Damaged b) logged kept h = (no_command known live batches place b logged h, kept)

@@ -15,7 +15,7 @@ use Rattle.bd_super.specs.declared.superblock.Super.{Super}
 use Rattle.bd_pager.specs.Pagers.{Paged, spots_of, nodes_of, table_of, is_known}
 use Rattle.bd_pager.specs.Places.{IsBadSpot}
 use Rattle.bd_image.specs.Stored.{HoldsNodes, table_of as stored_table}
-use Rattle.bd_image.specs.Damage.{IsBadAt}
+use Rattle.bd_image.specs.Damage.{IsFoundBad, IsBadAt}
 use Rattle.bd_checkpoint.specs.declared.commands.PlacedCommand.{PlacedCommand}
 use Rattle.bd_checkpoint.specs.Kept.{Saved, AreOfTree}
 
@@ -40,6 +40,10 @@ pub record FailsFirst {D : Type 0} (g : Ghosts D) (old new : D) : Type 0 where
 -- the block is why what reads give stands for no tree, as far as that is known
 abbrev pub IsBadIn : Option Image → ℕ → Type 0
 IsBadIn known b = IfSome known (λ image. IsBadAt image b)
+
+-- the block is found bad in what reads give, as far as that is known
+abbrev pub IsFoundIn : Option Image → ℕ → Type 0
+IsFoundIn known b = IfSome known (λ image. IsFoundBad image b)
 
 -- the last checkpoint, as a pager has it
 abbrev pub saved_of : {D : Type 0} → Paged D → Saved

@@ -9,7 +9,7 @@ use Rattle.bd_table.specs.declared.table.Table.{Table as StoredTable}
 use Rattle.bd_super.specs.Superblocks.{IsSuper}
 use Rattle.bd_super.specs.Live.{IsLive}
 use Rattle.bd_super.specs.declared.superblock.Super.{Super}
-use Rattle.bd_image.specs.Damage.{IsBadAt}
+use Rattle.bd_image.specs.Damage.{IsFoundBad}
 use Rattle.bd_checkpoint.specs.Following.{HasTableOf}
 
 -- reads give this superblock and its table, and a crash leaves what reads give
@@ -21,6 +21,6 @@ pub record IsStartedFrom {D : Type 0} (g : Ghosts D) (d : D) (live : Super) (t :
   pub live_is : IfSome (g.contents d) (λ image. IsLive image live)
   pub table_is : IfSome (g.contents d) (HasTableOf live t)
 
--- where the superblock is live, this block is why the image stands for no tree
-abbrev pub IsBadUnder : Option Image → Super → ℕ → Type 0
-IsBadUnder known live b = IfSome known (λ image. IsLive image live → IsBadAt image b)
+-- where the superblock is live, the block is found bad
+abbrev pub IsFoundUnder : Option Image → Super → ℕ → Type 0
+IsFoundUnder known live b = IfSome known (λ image. IsLive image live → IsFoundBad image b)

@@ -21,8 +21,8 @@ ghost use Rattle.bd_image.specs.Damage.{placed_records};
 ghost use Rattle.bd_checkpoint.specs.Commands.{AreCommandsOf};
 ghost use Rattle.bd_checkpoint.specs.Following.{saved_by};
 ghost use Rattle.bd_checkpoint.specs.Kept.{IsOpenOn};
-ghost use Rattle.bd_checkpoint.specs.Resuming.{IsStartedFrom, IsBadUnder};
-ghost use Rattle.bd_checkpoint.specs.Recovering.{OnlySettles, HasSettled, FailsFirst, IsBadIn, saved_of, AreStored, LeadsTo};
+ghost use Rattle.bd_checkpoint.specs.Resuming.{IsStartedFrom, IsFoundUnder};
+ghost use Rattle.bd_checkpoint.specs.Recovering.{OnlySettles, HasSettled, FailsFirst, IsFoundIn, saved_of, AreStored, LeadsTo};
 
 use crate::commands::PlacedCommand;
 use crate::resuming::resume_log;
@@ -88,7 +88,7 @@ pub fn recover<D: Device>(alloc: Global, dev: D, room: usize) -> Result<Recovere
 
     // The fault, and the device that is returned.
     ensures cause { IfErr result (λ refused. IsImageCause D.Device dev refused.device
-        (IsBadIn (D.contents dev)) refused.fault) }
+        (IsFoundIn (D.contents dev)) refused.fault) }
     ensures undamaged { (tree : Tree) (count : ℕ)
         → IsSomeAnd (D.contents dev) (ImageStandsFor tree count)
         → IfErr result (λ refused. (block : ℕ) → refused.fault ≢ Damaged block) }
@@ -141,7 +141,7 @@ fn open_start<D: Device>(
     ensures settled { IfOk result (λ r. HasSettled D.Device dev r.1.dev) }
     ensures faults { IfOk result (λ r. D.fault_count r.1.dev ≡ D.fault_count dev) }
     ensures cause { IfErr result (λ refused. IsImageCause D.Device dev refused.device
-        (IsBadIn (D.contents dev)) refused.fault) }
+        (IsFoundIn (D.contents dev)) refused.fault) }
     ensures left { IfErr result (λ refused. OnlySettles D.Device dev refused.device) }
     ensures settles { IfErr result (λ refused. 0 < D.block_count dev
         → ¬ FailsFirst D.Device dev refused.device
@@ -173,7 +173,7 @@ fn read_start<D: Device>(alloc: Global, dev: &mut D) -> Result<(Super, Vec<u32>)
         → HasSettled D.Device dev.old dev.new) }
     ensures left { OnlySettles D.Device dev.old dev.new }
     ensures cause { HasImageCause D.Device dev.old dev.new
-        (IsBadIn (D.contents dev.old)) result }
+        (IsFoundIn (D.contents dev.old)) result }
 {
     dev.barrier()?;
     let live = read_live(alloc, dev)?;
@@ -204,7 +204,7 @@ fn read_log<D: Device>(
         → IsStartedFrom D.Device pager.old.dev live.now t
         → IsOpenOn D.Device pager.new.dev live.now (saved_by live.now t) r.0) }
     ensures cause { HasImageCause D.Device pager.old.dev pager.new.dev
-        (IsBadUnder (D.contents pager.old.dev) live.now) result }
+        (IsFoundUnder (D.contents pager.old.dev) live.now) result }
     ensures reads { OnlyReads D.Device pager.old.dev pager.new.dev }
     ensures pager { pager.new ≡ record pager.old { dev = pager.new.dev; is_lent = false } }
 {

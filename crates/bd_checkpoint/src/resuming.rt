@@ -12,7 +12,7 @@ ghost use Rattle.bd_image.specs.Damage.{placed_records};
 ghost use Rattle.bd_checkpoint.specs.Commands.{AreCommandsOf};
 ghost use Rattle.bd_checkpoint.specs.Following.{saved_by};
 ghost use Rattle.bd_checkpoint.specs.Kept.{IsOpenOn};
-ghost use Rattle.bd_checkpoint.specs.Resuming.{IsStartedFrom, IsBadUnder};
+ghost use Rattle.bd_checkpoint.specs.Resuming.{IsStartedFrom, IsFoundUnder};
 
 use crate::commands::{PlacedCommand, commands_of};
 use bd_device::{Device, ImageFault};
@@ -44,7 +44,7 @@ pub fn resume_log<D: Device>(
         → IsStartedFrom D.Device dev.old live.now t
         → IsOpenOn D.Device dev.new live.now (saved_by live.now t) r.0) }
     ensures cause { HasImageCause D.Device dev.old dev.new
-        (IsBadUnder (D.contents dev.old) live.now) result }
+        (IsFoundUnder (D.contents dev.old) live.now) result }
     ensures reads { OnlyReads D.Device dev.old dev.new }
 {
     let log = Log::resume(alloc, dev, live.half.log_block(), live.epoch)?;

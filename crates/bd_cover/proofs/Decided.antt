@@ -271,7 +271,7 @@ edges_name x es = count_names x (flat_map edge_names es)
 edges_name-append : (x : ℕ) (es fs : List Edge) → edges_name x (es ++ fs) ≡ edges_name x es + edges_name x fs
 edges_name-append x es fs = ap (count_names x) (flat_map-append edge_names es fs) ∙ count_names-append x (flat_map edge_names es) (flat_map edge_names fs)
 
-join_times : (level : ℕ) (buffer : List Message) (e f : Edge) (xs rs ys : List Edge) (x : ℕ) → times (Inner level (xs ++ f ∷ ys) buffer) x ≤ times (Inner level (xs ++ e ∷ (rs ++ ys)) buffer) x + count_names x (edge_names f)
+pub join_times : (level : ℕ) (buffer : List Message) (e f : Edge) (xs rs ys : List Edge) (x : ℕ) → times (Inner level (xs ++ f ∷ ys) buffer) x ≤ times (Inner level (xs ++ e ∷ (rs ++ ys)) buffer) x + count_names x (edge_names f)
 join_times level buffer e f xs rs ys x =
     omega (
       arith,
@@ -360,13 +360,13 @@ read_rising n place at es bs e m h = subst (λ (l : List Edge). AreRising (drop 
 pub read_low : (n : Node) (place at : ℕ) (es : List Edge) (bs : List Message) (e : Edge) (m : Message) → IsReadAt n place at es bs e m → place + 1 ≤ length es
 read_low n place at es bs e m h = omega (arith, read_place n place at es bs e m h, ap (λ (l : List Edge). length l) h.edges)
 
-few_edges : (n : Node) (place : ℕ) (e : Edge) → IsShape n → IsEdgeAt n place e → length (edges_of n) ≤ edge_limit
-few_edges (Leaf entries) place e h here = absurd (none-some e here)
-few_edges (Inner level es buffer) place e h here = h.few
+pub few_edges : (n : Node) → IsShape n → length (edges_of n) ≤ edge_limit
+few_edges (Leaf entries) h = omega arith
+few_edges (Inner level es buffer) h = h.few
 
 pub read_few : (n : Node) (place at : ℕ) (es : List Edge) (bs : List Message) (e : Edge) (m : Message) → IsReadAt n place at es bs e m → place + 1 ≤ edge_limit
 read_few n place at es bs e m h =
-    omega (arith, read_place n place at es bs e m h, few_edges n place e h.shape (read_edge n place at es bs e m h))
+    omega (arith, read_place n place at es bs e m h, few_edges n h.shape)
 
 pub read_loose : (n : Node) (place at count : ℕ) (es : List Edge) (bs : List Message) (e f : Edge) (m : Message) → IsReadAt n place at es bs e m → IsRun bs at (drop (place + 1) es) count → f ≡ decided_edge e at m → IsLooseNode (joined n place count f)
 read_loose n place at count es bs e f m h run is =

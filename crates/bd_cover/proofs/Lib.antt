@@ -3,8 +3,11 @@ pub mod Cuts
 pub mod Joins
 pub mod Decided
 pub mod Falls
+pub mod Changed
 pub mod Decisions
-pub mod Entered
+pub mod Bared
+pub mod Barings
+pub mod Passed
 pub mod Shrinks
 pub mod WaysUp
 pub mod Looks

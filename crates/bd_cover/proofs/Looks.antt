@@ -1,6 +1,6 @@
 -- What is seen at a node, and on the walk.
 use Rattle.std.proofs.Common.{◌≡◌, ℕ, ◌+◌, ◌<◌, ◌≤◌, Bool, true, IsTrue, List, [], ◌∷◌, length, reverse, get_or, refl, sym, ap, subst, ◌∙◌, Option, None, Some, arith, inl, inr, Result, Ok, Err}
-use Rattle.std.specs.Prelude.{slice_get, MatchOption, IfOk, IfSome}
+use Rattle.std.specs.Prelude.{slice_get, MatchOption, IfOk, IfSome, ⊤}
 use Rattle.std.specs.List.{AllByRecursion}
 use Rattle.std.proofs.lemmas.Bool.{cases_eq}
 use Rattle.std.proofs.lemmas.List.{reverse-append}
@@ -23,11 +23,12 @@ use Rattle.bd_path.proofs.EdgesAt.{edge_named}
 use Rattle.bd_cover.specs.declared.covering.Cover.{Cover}
 use Rattle.bd_cover.specs.declared.covering.Cover.TheVariants.{Gone, Elsewhere}
 use Rattle.bd_cover.specs.declared.walking.Reclaim.{Reclaim}
-use Rattle.bd_cover.specs.declared.walking.Reclaim.TheVariants.{Shrink, Drop, Redirect, Push}
+use Rattle.bd_cover.specs.declared.walking.Reclaim.TheVariants.{Shrink, Drop, Redirect, Bare, Push}
+use Rattle.bd_cover.specs.Bare.{HasChildAt, IsBareAt, HasNoBare}
 use Rattle.bd_cover.specs.Covering.{IsCovered, HasNoCovered, HasCut, HasNoCut, IsFirstCut}
-use Rattle.bd_cover.specs.Walking.{IsWalked, IsUnder, IsThinWay, IsThin, IsNoThinRoot, IsClean, IsFirstAt, HasNone, HasNoneBefore, IsFirst, IsToDo, IsMadeAt, IsToDoAt, IsWayBetween, IsFoundFrom, IsFoundIn, IsBelow, HasNoneAbove}
+use Rattle.bd_cover.specs.Walking.{IsWalked, IsUnder, IsThinWay, IsThin, IsNoThinRoot, IsClean, IsFirstAt, HasNone, AreClean, IsDue, IsToDo, IsMadeAt, IsToDoAt, IsWayBetween, IsFoundFrom, IsFoundIn, IsBelow, HasNoneAbove}
 use Rattle.bd_cover.specs.Walking.IsUnder.{itself, through}
-use Rattle.bd_cover.specs.Walking.IsFirst.{here, below}
+use Rattle.bd_cover.specs.Walking.IsDue.{here, bare, below}
 use Rattle.bd_cover.specs.Walking.IsWayBetween.{at_top}
 use Rattle.bd_cover.proofs.WaysUp.{way_longer, way_up, way_own, contents_more}
 
@@ -85,6 +86,7 @@ to_do_first pushes t f (Drop node place at) fetched first none =
     (subst (λ (x : Fetched). IsFetched t x) (sym first.0) fetched, subst (λ (x : Fetched). IsCovered Gone x.node.value place at) (sym first.0) first.2.covered)
 to_do_first pushes t f (Redirect node place at) fetched first none =
     (subst (λ (x : Fetched). IsFetched t x) (sym first.0) fetched, subst (λ (x : Fetched). IsCovered Elsewhere x.node.value place at) (sym first.0) first.3.covered)
+to_do_first pushes t f (Bare node place) fetched first none = absurd first
 to_do_first pushes t f (Push above node place) fetched first none = (
   subst (λ (x : Fetched). IsFetched t x) (sym first.0) fetched,
   subst (λ (x : Fetched). HasCut x.node.value place) (sym first.0) first.5.cut,
@@ -98,30 +100,37 @@ pub found_in_here : (nodes : Nodes) (step : Reclaim) → HasNoneAbove step → I
 found_in_here nodes (Shrink child) none = tt
 found_in_here nodes (Drop node place at) none = tt
 found_in_here nodes (Redirect node place at) none = tt
+found_in_here nodes (Bare node place) none = tt
 found_in_here nodes (Push above node place) none = subst (λ (l : List Fetched). AllByRecursion (IsContents nodes) (reverse l)) (sym none) tt
 
 there_here : (pushes : Bool) (nodes : Nodes) (t : Table) (f : Fetched) (step : Reclaim) → nodes f.id ≡ Some f.node.value → IsPrivate nodes t f.id → IsFirstAt pushes t f step → IsMadeAt nodes t step
 there_here pushes nodes t f (Shrink child) there private first = (f.node.value, ap nodes (sym first.0) ∙ there, first.1)
 there_here pushes nodes t f (Drop node place at) there private first = subst (λ (x : Fetched). IsOwn nodes t x) (sym first.0) (record { private = private; there = there })
 there_here pushes nodes t f (Redirect node place at) there private first = subst (λ (x : Fetched). IsOwn nodes t x) (sym first.0) (record { private = private; there = there })
+there_here pushes nodes t f (Bare node place) there private first = absurd first
 there_here pushes nodes t f (Push above node place) there private first = subst (λ (x : Fetched). IsOwn nodes t x) (sym first.0) (record { private = private; there = there })
 
-there_below : (pushes : Bool) (nodes : Nodes) (t : Table) (step : Reclaim) (id : ℕ) → IsSound nodes t → IsPrivate nodes t id → IsFirst pushes nodes t step id → IsMadeAt nodes t step
+there_below : (pushes : Bool) (nodes : Nodes) (t : Table) (step : Reclaim) (id : ℕ) → IsSound nodes t → IsPrivate nodes t id → IsDue pushes nodes t step id → IsMadeAt nodes t step
 there_below pushes nodes t step id sound private (here f there first) = there_here pushes nodes t f step there private first
-there_below pushes nodes t step id sound private (below _ place c n e there clean before at_place walked first) =
+there_below pushes nodes t step id sound private (bare f place there clean at_place is) = subst (λ (s : Reclaim). IsMadeAt nodes t s) (sym is) (record { private = private; there = there }, at_place)
+there_below pushes nodes t step id sound private (below _ place c n e there clean at_place walked due) =
     there_below pushes nodes t step c sound
-    (alone id c n private there (edge_named n place c e (node_of nodes t sound id n there).shape (record { here = at_place; child_is = walked.child_is })) walked.once) first
+    (alone id c n private there (edge_named n place c e (node_of nodes t sound id n there).shape (record { here = at_place; child_is = walked.child_is })) walked.once) due
 
 -- ---- the walk
 
-none_under : (pushes : Bool) (nodes : Nodes) (t : Table) (x from : ℕ) → IsUnder nodes t x from → (n : Node) → nodes from ≡ Some n → IsClean pushes t from n → HasNoneBefore pushes nodes t (edges_of n) (length (edges_of n)) → (m : Node) → nodes x ≡ Some m → IsClean pushes t x m
-none_under pushes nodes t x from itself n there clean before m at_x = subst (λ (k : Node). IsClean pushes t x k) (same_Some n m (sym there ∙ at_x)) clean
-none_under pushes nodes t x from (through _ place c k e at_from at_place walked rest) n there clean before m at_x =
+-- nothing is to be changed below the edges before a place
+abbrev pub HasNoneBefore : Bool → Nodes → Table → List Edge → ℕ → Type 0
+HasNoneBefore pushes nodes t edges place = (i c : ℕ) (e : Edge) → i < place → slice_get edges i ≡ Some e → IsWalked t e c → HasNone pushes nodes t c
+
+none_under : (pushes : Bool) (nodes : Nodes) (t : Table) (x from : ℕ) → IsUnder nodes t x from → (n : Node) → nodes from ≡ Some n → IsClean pushes t from n → HasNoBare nodes n → HasNoneBefore pushes nodes t (edges_of n) (length (edges_of n)) → (m : Node) → nodes x ≡ Some m → IsClean pushes t x m × HasNoBare nodes m
+none_under pushes nodes t x from itself n there clean no_bare before m at_x = subst (λ (k : Node). IsClean pushes t x k × HasNoBare nodes k) (same_Some n m (sym there ∙ at_x)) (clean, no_bare)
+none_under pushes nodes t x from (through _ place c k e at_from at_place walked rest) n there clean no_bare before m at_x =
     let own : IsEdgeAt n place e = subst (λ (i : Node). IsEdgeAt i place e) (same_Some k n (sym at_from ∙ there)) at_place in
     before place c e (edge_within n place e own) own walked x m rest at_x
 
-pub none_from : (pushes : Bool) (nodes : Nodes) (t : Table) (id : ℕ) (n : Node) → nodes id ≡ Some n → IsClean pushes t id n → HasNoneBefore pushes nodes t (edges_of n) (length (edges_of n)) → HasNone pushes nodes t id
-none_from pushes nodes t id n there clean before x m under at_x = none_under pushes nodes t x id under n there clean before m at_x
+none_from : (pushes : Bool) (nodes : Nodes) (t : Table) (id : ℕ) (n : Node) → nodes id ≡ Some n → IsClean pushes t id n → HasNoBare nodes n → HasNoneBefore pushes nodes t (edges_of n) (length (edges_of n)) → HasNone pushes nodes t id
+none_from pushes nodes t id n there clean no_bare before x m under at_x = none_under pushes nodes t x id under n there clean no_bare before m at_x
 
 pub none_past : (pushes : Bool) (nodes : Nodes) (t : Table) (edges : List Edge) (place : ℕ) (e : Edge) → HasNoneBefore pushes nodes t edges place → slice_get edges place ≡ Some e → ((c : ℕ) → IsWalked t e c → HasNone pushes nodes t c) → HasNoneBefore pushes nodes t edges (place + 1)
 none_past pushes nodes t edges place e before at_place none i c f low at_i walked =
@@ -136,8 +145,19 @@ none_past pushes nodes t edges place e before at_place none i c f low at_i walke
 pub none_of_child : (pushes : Bool) (nodes : Nodes) (t : Table) (e : Edge) (child : ℕ) → IsWalked t e child → HasNone pushes nodes t child → (c : ℕ) → IsWalked t e c → HasNone pushes nodes t c
 none_of_child pushes nodes t e child walked none c other = subst (λ (i : ℕ). HasNone pushes nodes t i) (same_Some child c (sym walked.child_is ∙ other.child_is)) none
 
-pub first_here : (pushes : Bool) (nodes : Nodes) (t : Table) (step : Reclaim) (id : ℕ) (f : Fetched) → f.id ≡ id → nodes id ≡ Some f.node.value → IsFirstAt pushes t f step → IsFirst pushes nodes t step id
-first_here pushes nodes t step id f same there first = subst (λ (i : ℕ). IsFirst pushes nodes t step i) same (here f (ap nodes same ∙ there) first)
+pub due_here : (pushes : Bool) (nodes : Nodes) (t : Table) (step : Reclaim) (id : ℕ) (f : Fetched) → f.id ≡ id → nodes id ≡ Some f.node.value → IsFirstAt pushes t f step → IsDue pushes nodes t step id
+due_here pushes nodes t step id f same there first = subst (λ (i : ℕ). IsDue pushes nodes t step i) same (here f (ap nodes same ∙ there) first)
+
+pub due_bare : (pushes : Bool) (nodes same_nodes : Nodes) (t : Table) (id : ℕ) (f clean : Fetched) (place : ℕ) → f.id ≡ id → nodes id ≡ Some f.node.value → clean ≡ f → same_nodes ≡ nodes → IsClean pushes t f.id f.node.value → IsBareAt same_nodes clean.node.value place → IsDue pushes nodes t (Bare clean place) id
+due_bare pushes nodes same_nodes t id f clean place same there same_f e_nodes is_clean at_place =
+    subst (λ (i : ℕ). IsDue pushes nodes t (Bare clean place) i) same
+    (bare f place (ap nodes same ∙ there) is_clean (subst (λ (x : Fetched). IsBareAt nodes x.node.value place) same_f (subst (λ (m : Nodes). IsBareAt m clean.node.value place) e_nodes at_place)) (ap (λ (x : Fetched). Bare x place) same_f))
+
+pub bare_to_do : (t : Table) (id : ℕ) (f clean : Fetched) (place : ℕ) → IsFetched t f → clean ≡ f → HasChildAt clean.node.value place → IsFoundFrom t id (Bare clean place)
+bare_to_do t id f clean place fetched same child = (subst (λ (x : Fetched). IsFetched t x) (sym same) fetched, child)
+
+pub clean_fetched : (t same_t : Table) (f clean : Fetched) → same_t ≡ t → clean ≡ f → IsFetched t f → IsFetched same_t clean
+clean_fetched t same_t f clean e_t same fetched = subst (λ (x : Fetched). IsFetched same_t x) (sym same) (subst (λ (u : Table). IsFetched u f) (sym e_t) fetched)
 
 -- ---- on the walk
 
@@ -163,16 +183,16 @@ edge_at t f clean shown es place e h =
 pub edge_lower : (t : Table) (f clean : Fetched) (shown : Node) (es : List Edge) (place : ℕ) (e : Edge) → IsAtEdge t f clean shown es place e → (c : ℕ) → e.child ≡ Some c → IsLower t (t.level f.id) c
 edge_lower t f clean shown es place e h c child = child_lower t f place e c h.fetched (edge_at t f clean shown es place e h) child
 
-pub first_below : (pushes : Bool) (nodes : Nodes) (t : Table) (step : Reclaim) (id : ℕ) (f clean : Fetched) (shown : Node) (es : List Edge) (place : ℕ) (e : Edge) (c : ℕ) → IsAtEdge t f clean shown es place e → f.id ≡ id → nodes id ≡ Some f.node.value → IsClean pushes t f.id f.node.value → HasNoneBefore pushes nodes t es place
-    → IsWalked t e c → IsFirst pushes nodes t step c → IsFirst pushes nodes t step id
-first_below pushes nodes t step id f clean shown es place e c h same there is_clean before walked first =
-    below id place c f.node.value e there (subst (λ (i : ℕ). IsClean pushes t i f.node.value) same is_clean)
-    (subst (λ (l : List Edge). HasNoneBefore pushes nodes t l place) (edges_are f clean shown es h.same h.shown_is h.edges) before)
-    (edge_at t f clean shown es place e h) walked first
+pub due_below : (pushes : Bool) (nodes : Nodes) (t : Table) (step : Reclaim) (id : ℕ) (f clean : Fetched) (shown : Node) (es : List Edge) (place : ℕ) (e : Edge) (c : ℕ) → IsAtEdge t f clean shown es place e → f.id ≡ id → nodes id ≡ Some f.node.value → IsClean pushes t f.id f.node.value
+    → IsWalked t e c → IsDue pushes nodes t step c → IsDue pushes nodes t step id
+due_below pushes nodes t step id f clean shown es place e c h same there is_clean walked due =
+    below id place c f.node.value e there (subst (λ (i : ℕ). IsClean pushes t i f.node.value) same is_clean) (edge_at t f clean shown es place e h) walked due
 
-pub none_at_end : (pushes : Bool) (nodes : Nodes) (t : Table) (id : ℕ) (f clean : Fetched) (shown : Node) (es : List Edge) (place : ℕ) → clean ≡ f → shown ≡ clean.node.value → es ≡ edges_of shown → f.id ≡ id → nodes id ≡ Some f.node.value → IsClean pushes t f.id f.node.value → length es ≤ place → HasNoneBefore pushes nodes t es place → HasNone pushes nodes t id
-none_at_end pushes nodes t id f clean shown es place same shown_is edges same_id there is_clean long before =
+pub none_at_end : (pushes : Bool) (nodes same_nodes : Nodes) (t : Table) (id : ℕ) (f clean : Fetched) (shown : Node) (es : List Edge) (place : ℕ) → clean ≡ f → shown ≡ clean.node.value → es ≡ edges_of shown → f.id ≡ id → nodes id ≡ Some f.node.value → IsClean pushes t f.id f.node.value → same_nodes ≡ nodes
+    → HasNoBare same_nodes clean.node.value → length es ≤ place → HasNoneBefore pushes nodes t es place → HasNone pushes nodes t id
+none_at_end pushes nodes same_nodes t id f clean shown es place same shown_is edges same_id there is_clean e_nodes no_bare long before =
     none_from pushes nodes t id f.node.value there (subst (λ (i : ℕ). IsClean pushes t i f.node.value) same_id is_clean)
+    (subst (λ (x : Fetched). HasNoBare nodes x.node.value) same (subst (λ (m : Nodes). HasNoBare m clean.node.value) e_nodes no_bare))
     (subst (λ (l : List Edge). HasNoneBefore pushes nodes t l (length l)) (edges_are f clean shown es same shown_is edges)
     (λ i c e low at_i walked. before i c e (omega arith) at_i walked))
 
@@ -182,18 +202,21 @@ at_below : (pushes : Bool) (t : Table) (f g : Fetched) (step found : Reclaim) �
 at_below pushes t f g (Shrink child) found is first = subst (λ (s : Reclaim). IsFirstAt pushes t f s) (sym is) first
 at_below pushes t f g (Drop node place at) found is first = subst (λ (s : Reclaim). IsFirstAt pushes t f s) (sym is) first
 at_below pushes t f g (Redirect node place at) found is first = subst (λ (s : Reclaim). IsFirstAt pushes t f s) (sym is) first
+at_below pushes t f g (Bare node place) found is first = subst (λ (s : Reclaim). IsFirstAt pushes t f s) (sym is) first
 at_below pushes t f g (Push above node place) found is first = subst (λ (s : Reclaim). IsFirstAt pushes t f s) (sym is) first
 
--- the nodes above don't tell which change is the first
-pub first_found : (pushes : Bool) (nodes : Nodes) (t : Table) (g : Fetched) (step found : Reclaim) (id : ℕ) → IsBelow g step found → IsFirst pushes nodes t step id → IsFirst pushes nodes t found id
-first_found pushes nodes t g step found id is (here f there first) = here f there (at_below pushes t f g step found is first)
-first_found pushes nodes t g step found id is (below _ place c n e there clean before at_place walked first) =
-    below id place c n e there clean before at_place walked (first_found pushes nodes t g step found c is first)
+-- the nodes above don't tell which change is due
+pub due_found : (pushes : Bool) (nodes : Nodes) (t : Table) (g : Fetched) (step found : Reclaim) (id : ℕ) → IsBelow g step found → IsDue pushes nodes t step id → IsDue pushes nodes t found id
+due_found pushes nodes t g step found id is (here f there first) = here f there (at_below pushes t f g step found is first)
+due_found pushes nodes t g step found id is (bare f place there clean at_place own) = bare f place there clean at_place (subst (λ (s : Reclaim). IsBelow g s found) own is)
+due_found pushes nodes t g step found id is (below _ place c n e there clean at_place walked due) =
+    below id place c n e there clean at_place walked (due_found pushes nodes t g step found c is due)
 
 pub found_below : (t : Table) (f : Fetched) (place : ℕ) (e : Edge) (c : ℕ) (step found : Reclaim) → IsFetched t f → IsEdgeAt f.node.value place e → IsWalked t e c → IsFoundFrom t c step → IsBelow f step found → IsFoundFrom t f.id found
 found_below t f place e c (Shrink child) found fetched asks walked h is = subst (λ (s : Reclaim). IsFoundFrom t f.id s) (sym is) h
 found_below t f place e c (Drop node i at) found fetched asks walked h is = subst (λ (s : Reclaim). IsFoundFrom t f.id s) (sym is) h
 found_below t f place e c (Redirect node i at) found fetched asks walked h is = subst (λ (s : Reclaim). IsFoundFrom t f.id s) (sym is) h
+found_below t f place e c (Bare node i) found fetched asks walked h is = subst (λ (s : Reclaim). IsFoundFrom t f.id s) (sym is) h
 found_below t f place e c (Push above node i) found fetched asks walked h is =
     subst (λ (s : Reclaim). IsFoundFrom t f.id s) (sym is) (
       h.0,
@@ -206,6 +229,7 @@ pub found_in_below : (nodes : Nodes) (f : Fetched) (step found : Reclaim) → no
 found_in_below nodes f (Shrink child) found there h is = subst (λ (s : Reclaim). IsFoundIn nodes s) (sym is) h
 found_in_below nodes f (Drop node place at) found there h is = subst (λ (s : Reclaim). IsFoundIn nodes s) (sym is) h
 found_in_below nodes f (Redirect node place at) found there h is = subst (λ (s : Reclaim). IsFoundIn nodes s) (sym is) h
+found_in_below nodes f (Bare node place) found there h is = subst (λ (s : Reclaim). IsFoundIn nodes s) (sym is) h
 found_in_below nodes f (Push above node place) found there h is =
     subst (λ (s : Reclaim). IsFoundIn nodes s) (sym is)
     (subst (λ (l : List Fetched). AllByRecursion (IsContents nodes) l) (sym (reverse-append (f ∷ []) above)) (contents_more nodes (reverse above) f h there))
@@ -222,12 +246,21 @@ found_in_down nodes same_nodes id f clean step found answer same same_id there e
     found_in_below nodes f step found (ap nodes same_id ∙ there) (subst (λ (n : Nodes). IsFoundIn n step) e_nodes step_found) (subst (λ (x : Fetched). IsBelow x step found) same more)
 
 -- what a child's walk finds, in other spelling
-pub as_found : (pushes : Bool) (nodes same_nodes : Nodes) (t same_t : Table) (c : ℕ) (found answer : Option Reclaim) → same_nodes ≡ nodes → same_t ≡ t → found ≡ answer → MatchOption found (HasNone pushes same_nodes same_t c) (λ step. IsFirst pushes same_nodes same_t step c)
-    → MatchOption answer (HasNone pushes nodes t c) (λ step. IsFirst pushes nodes t step c)
-as_found pushes nodes same_nodes t same_t c found answer e_nodes e_t e_found h =
-    subst (λ (o : Option Reclaim). MatchOption o (HasNone pushes nodes t c) (λ step. IsFirst pushes nodes t step c)) e_found
-    (subst (λ (u : Table). MatchOption found (HasNone pushes nodes u c) (λ step. IsFirst pushes nodes u step c)) e_t
-    (subst (λ (n : Nodes). MatchOption found (HasNone pushes n same_t c) (λ step. IsFirst pushes n same_t step c)) e_nodes h))
+pub due_in : (pushes : Bool) (nodes same_nodes : Nodes) (t same_t : Table) (c : ℕ) (answer : Option Reclaim) (step : Reclaim) → same_nodes ≡ nodes → same_t ≡ t → answer ≡ Some step → IfSome answer (λ s. IsDue pushes same_nodes same_t s c) → IsDue pushes nodes t step c
+due_in pushes nodes same_nodes t same_t c answer step e_nodes e_t is h =
+    subst (λ (m : Nodes). IsDue pushes m t step c) e_nodes (subst (λ (u : Table). IsDue pushes same_nodes u step c) e_t (subst (λ (o : Option Reclaim). IfSome o (λ s. IsDue pushes same_nodes same_t s c)) is h))
+
+pub none_in : (pushes : Bool) (nodes same_nodes : Nodes) (t same_t : Table) (c : ℕ) (answer : Option Reclaim) → same_nodes ≡ nodes → same_t ≡ t → answer ≡ None → MatchOption answer (HasNone pushes same_nodes same_t c) (λ step. ⊤) → HasNone pushes nodes t c
+none_in pushes nodes same_nodes t same_t c answer e_nodes e_t is h =
+    subst (λ (m : Nodes). HasNone pushes m t c) e_nodes (subst (λ (u : Table). HasNone pushes same_nodes u c) e_t (subst (λ (o : Option Reclaim). MatchOption o (HasNone pushes same_nodes same_t c) (λ step. ⊤)) is h))
+
+pub clean_there : (pushes : Bool) (nodes same_nodes : Nodes) (t same_t : Table) (now : ℕ → Bool) → same_nodes ≡ nodes → same_t ≡ t → AreClean pushes nodes t now → AreClean pushes same_nodes same_t now
+clean_there pushes nodes same_nodes t same_t now e_nodes e_t h =
+    subst (λ (m : Nodes). AreClean pushes m same_t now) (sym e_nodes) (subst (λ (u : Table). AreClean pushes nodes u now) (sym e_t) h)
+
+pub clean_back : (pushes : Bool) (nodes same_nodes : Nodes) (t same_t : Table) (now : ℕ → Bool) → same_nodes ≡ nodes → same_t ≡ t → AreClean pushes same_nodes same_t now → AreClean pushes nodes t now
+clean_back pushes nodes same_nodes t same_t now e_nodes e_t h =
+    subst (λ (m : Nodes). AreClean pushes m t now) e_nodes (subst (λ (u : Table). AreClean pushes same_nodes u now) e_t h)
 
 pub still_sound : (nodes same_nodes : Nodes) (t same_t : Table) → same_nodes ≡ nodes → same_t ≡ t → IsSound nodes t → IsSound same_nodes same_t
 still_sound nodes same_nodes t same_t e_nodes e_t sound =
@@ -235,29 +268,46 @@ still_sound nodes same_nodes t same_t e_nodes e_t sound =
 
 -- ---- the whole walk
 
-pub at_root : {E : Type 0} (pushes : Bool) (nodes : Nodes) (t : Table) (root : ℕ) (r : Result (Option Reclaim) E) → root ≡ t.root → IfOk r (λ found. MatchOption found (HasNone pushes nodes t root) (λ step. IsFirst pushes nodes t step root))
-    → IfOk r (λ found. MatchOption found (HasNone pushes nodes t t.root) (λ step. IsFirst pushes nodes t step t.root))
-at_root pushes nodes t root r same h = subst (λ (i : ℕ). IfOk r (λ found. MatchOption found (HasNone pushes nodes t i) (λ step. IsFirst pushes nodes t step i))) same h
+-- what a walk from the root finds, in other spelling
+pub walk_due : {E : Type 0} (pushes : Bool) (nodes mid : Nodes) (t u : Table) (root : ℕ) (r : Result (Option Reclaim) E) → mid ≡ nodes → u ≡ t → root ≡ t.root → IfOk r (λ found. IfSome found (λ step. IsDue pushes mid u step root)) → IfOk r (λ found. MatchOption found (HasNone pushes mid u root) (λ step. ⊤))
+    → IfOk r (λ found. MatchOption found (HasNone pushes nodes t t.root) (λ step. IsDue pushes nodes t step t.root))
+walk_due pushes nodes mid t u root (Ok (Some step)) e_nodes e_t same due none =
+    subst (λ (i : ℕ). IsDue pushes nodes t step i) same (subst (λ (m : Nodes). IsDue pushes m t step root) e_nodes (subst (λ (v : Table). IsDue pushes mid v step root) e_t due))
+walk_due pushes nodes mid t u root (Ok None) e_nodes e_t same due none =
+    subst (λ (i : ℕ). HasNone pushes nodes t i) same (subst (λ (m : Nodes). HasNone pushes m t root) e_nodes (subst (λ (v : Table). HasNone pushes mid v root) e_t none))
+walk_due pushes nodes mid t u root (Err e) e_nodes e_t same due none = tt
 
-found_to_do : (t : Table) (step : Reclaim) → IsFoundFrom t t.root step → IsToDo t step
+pub found_to_do : (t : Table) (step : Reclaim) → IsFoundFrom t t.root step → IsToDo t step
 found_to_do t (Shrink child) h = h
 found_to_do t (Drop node place at) h = h
 found_to_do t (Redirect node place at) h = h
+found_to_do t (Bare node place) h = h
 found_to_do t (Push above node place) h = (h.0, h.1, way_up t node.id (reverse above) h.2)
 
-pub to_do : {E : Type 0} (t : Table) (root : ℕ) (r : Result (Option Reclaim) E) → root ≡ t.root → IfOk r (λ found. IfSome found (IsFoundFrom t root)) → IfOk r (λ found. IfSome found (IsToDo t))
-to_do t root (Ok (Some step)) same h = found_to_do t step (subst (λ (i : ℕ). IsFoundFrom t i step) same h)
-to_do t root (Ok None) same h = tt
-to_do t root (Err e) same h = tt
+pub walk_to_do : {E : Type 0} (t u : Table) (root : ℕ) (r : Result (Option Reclaim) E) → u ≡ t → root ≡ t.root → IfOk r (λ found. IfSome found (IsFoundFrom u root)) → IfOk r (λ found. IfSome found (IsToDo t))
+walk_to_do t u root (Ok (Some step)) e_t same h = found_to_do t step (subst (λ (i : ℕ). IsFoundFrom t i step) same (subst (λ (v : Table). IsFoundFrom v root step) e_t h))
+walk_to_do t u root (Ok None) e_t same h = tt
+walk_to_do t u root (Err e) e_t same h = tt
 
 to_do_in : (nodes : Nodes) (t : Table) (step : Reclaim) → IsSound nodes t → IsMadeAt nodes t step → IsToDo t step → IsFoundIn nodes step → IsToDoAt nodes t step
 to_do_in nodes t (Shrink child) sound there to contents = (there, tt)
 to_do_in nodes t (Drop node place at) sound there to contents = (there, tt)
 to_do_in nodes t (Redirect node place at) sound there to contents = (there, tt)
+to_do_in nodes t (Bare node place) sound there to contents = (there, tt)
 to_do_in nodes t (Push above node place) sound there to contents = (there, way_own nodes t node.id (reverse above) sound to.2 contents)
 
-pub found_at : {E : Type 0} (pushes : Bool) (nodes : Nodes) (t : Table) (r : Result (Option Reclaim) E) → IsSound nodes t → IfOk r (λ found. MatchOption found (HasNone pushes nodes t t.root) (λ step. IsFirst pushes nodes t step t.root)) → IfOk r (λ found. IfSome found (IsToDo t))
-    → IfOk r (λ found. IfSome found (IsFoundIn nodes)) → IfOk r (λ found. IfSome found (IsToDoAt nodes t))
-found_at pushes nodes t (Ok (Some step)) sound first to in_nodes = to_do_in nodes t step sound (there_below pushes nodes t step t.root sound (root_private nodes t sound) first) to in_nodes
-found_at pushes nodes t (Ok None) sound first to in_nodes = tt
-found_at pushes nodes t (Err e) sound first to in_nodes = tt
+pub one_at : (pushes : Bool) (nodes : Nodes) (t : Table) (root : ℕ) (step : Reclaim) → root ≡ t.root → IsSound nodes t → IsDue pushes nodes t step root → IsFoundFrom t root step → IsFoundIn nodes step → IsToDoAt nodes t step
+one_at pushes nodes t root step same sound due found in_nodes =
+    to_do_in nodes t step sound (there_below pushes nodes t step t.root sound (root_private nodes t sound) (subst (λ (i : ℕ). IsDue pushes nodes t step i) same due))
+    (found_to_do t step (subst (λ (i : ℕ). IsFoundFrom t i step) same found)) in_nodes
+
+pub walk_at : {E : Type 0} (pushes : Bool) (nodes mid : Nodes) (t u : Table) (root : ℕ) (r : Result (Option Reclaim) E) → mid ≡ nodes → u ≡ t → root ≡ t.root → IsSound nodes t → IfOk r (λ found. IfSome found (λ step. IsDue pushes mid u step root)) → IfOk r (λ found. IfSome found (IsFoundFrom u root))
+    → IfOk r (λ found. IfSome found (IsFoundIn mid)) → IfOk r (λ found. IfSome found (IsToDoAt nodes t))
+walk_at pushes nodes mid t u root (Ok (Some step)) e_nodes e_t same sound due found in_nodes =
+    one_at pushes nodes t root step same sound (subst (λ (m : Nodes). IsDue pushes m t step root) e_nodes (subst (λ (v : Table). IsDue pushes mid v step root) e_t due))
+    (subst (λ (v : Table). IsFoundFrom v root step) e_t found) (subst (λ (m : Nodes). IsFoundIn m step) e_nodes in_nodes)
+walk_at pushes nodes mid t u root (Ok None) e_nodes e_t same sound due found in_nodes = tt
+walk_at pushes nodes mid t u root (Err e) e_nodes e_t same sound due found in_nodes = tt
+
+pub found_one : (P : Reclaim → Type 0) (answer : Option Reclaim) (step : Reclaim) → answer ≡ Some step → IfSome answer P → P step
+found_one P answer step is h = subst (λ (o : Option Reclaim). IfSome o P) is h

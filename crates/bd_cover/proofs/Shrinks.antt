@@ -23,7 +23,7 @@ use Rattle.bd_node.proofs.Stepping.{touched_in, given-old, given-new, after-none
 use Rattle.bd_node.proofs.Closing.{stay_above}
 use Rattle.bd_cover.specs.Walking.{IsThinWay, IsThin}
 use Rattle.bd_path.specs.Flushed.{LeadsTo}
-use Rattle.bd_cover.specs.Reclaimed.{IsReclaimed, IsShrunk, root_only, unseen_in, left_over}
+use Rattle.bd_cover.specs.Reclaimed.{IsReclaimed, IsShrunk, root_only, left_in, left_over}
 use Rattle.bd_cover.proofs.Falls.{sum_no_more}
 
 -- ---- the step
@@ -120,20 +120,20 @@ shrink_reclaimed nodes t child new u h =
 shrink_shrunk : (nodes : Nodes) (t : Table) (child : ℕ) (new : Nodes) (u : Table) → IsToShrink nodes t child new u → IsShrunk nodes child new u
 shrink_shrunk nodes t child new u h = record { root = h.after.root; rest = rest_same nodes t child new u h.committed }
 
-none_more : (nodes : Nodes) (t : Table) (child : ℕ) (new : Nodes) (u : Table) → IsToShrink nodes t child new u → (id : ℕ) → unseen_in (new id) ≤ unseen_in (nodes id)
+none_more : (nodes : Nodes) (t : Table) (child : ℕ) (new : Nodes) (u : Table) → IsToShrink nodes t child new u → (id : ℕ) → left_in (new id) ≤ left_in (nodes id)
 none_more nodes t child new u h id =
     elim (cases_eq (u.count id) 0) [
-      | inl gone ↦ (let none : unseen_in (new id) ≡ 0 = ap unseen_in (h.committed.sound.others id gone) in omega arith)
-      | inr kept ↦ (let is : unseen_in (new id) ≡ unseen_in (nodes id) = ap unseen_in (rest_same nodes t child new u h.committed id (omega arith)) in omega arith)
+      | inl gone ↦ (let none : left_in (new id) ≡ 0 = ap left_in (h.committed.sound.others id gone) in omega arith)
+      | inr kept ↦ (let is : left_in (new id) ≡ left_in (nodes id) = ap left_in (rest_same nodes t child new u h.committed id (omega arith)) in omega arith)
     ]
 
 shrink_falls : (nodes : Nodes) (t : Table) (child : ℕ) (new : Nodes) (u : Table) → IsToShrink nodes t child new u → left_over new u < left_over nodes t
 shrink_falls nodes t child new u h =
     let level : u.level u.root ≡ t.level child = child_level t child u h.after in
     let low : t.level child < t.level t.root = h.lower.lower in
-    let sums : sum_below t.next (λ id. unseen_in (new id)) ≤ sum_below t.next (λ id. unseen_in (nodes id)) =
-    sum_no_more t.next (λ id. unseen_in (nodes id)) (λ id. unseen_in (new id)) (λ id below. none_more nodes t child new u h id) in
-    let next : sum_below u.next (λ id. unseen_in (new id)) ≡ sum_below t.next (λ id. unseen_in (new id)) = ap (λ (i : ℕ). sum_below i (λ id. unseen_in (new id))) (shrink_next t child u h.after) in
+    let sums : sum_below t.next (λ id. left_in (new id)) ≤ sum_below t.next (λ id. left_in (nodes id)) =
+    sum_no_more t.next (λ id. left_in (nodes id)) (λ id. left_in (new id)) (λ id below. none_more nodes t child new u h id) in
+    let next : sum_below u.next (λ id. left_in (new id)) ≡ sum_below t.next (λ id. left_in (new id)) = ap (λ (i : ℕ). sum_below i (λ id. left_in (new id))) (shrink_next t child u h.after) in
     omega (arith, sums, next, level, low)
 
 -- ---- on success

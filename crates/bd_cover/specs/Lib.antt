@@ -1,3 +1,4 @@
+pub mod Bare
 pub mod Covering
 pub mod Walking
 pub mod Reclaimed

@@ -1,15 +1,17 @@
 -- What a change leaves.
-use Rattle.std.specs.Prelude.{◌≡◌, ℕ, ◌+◌, ◌≤◌, List, [], length, drop, Option, None, Some, ◌⊎◌, IsTrue}
+use Rattle.std.specs.Prelude.{◌≡◌, ℕ, ◌+◌, ◌*◌, ◌≤◌, List, [], length, drop, Option, None, Some, ◌⊎◌, IsTrue}
 use Rattle.std.specs.List.{sum_by}
 use Rattle.bd_node.specs.declared.node.Node.{Node}
 use Rattle.bd_node.specs.declared.node.Step.{Step}
 use Rattle.bd_node.specs.Meaning.{Nodes}
+use Rattle.bd_node.specs.Nodes.{edge_names}
 use Rattle.bd_node.specs.Private.{IsPrivate}
 use Rattle.bd_node.specs.Tables.{Table, IsKept, IsSound, root_at, sum_below}
 use Rattle.bd_node.specs.Parts.{edges_of, buffer_of}
 use Rattle.bd_path.specs.declared.fetching.Fetched.{Fetched}
 use Rattle.bd_path.specs.Flushed.{LeadsTo, IsUntouched}
 use Rattle.bd_path.specs.Paths.{change_step}
+use Rattle.bd_cover.specs.Bare.{IsBared}
 use Rattle.bd_cover.specs.Covering.{IsDecided}
 
 -- what a change leaves: the tree has what it had, in sound nodes, and at most four are made; only
@@ -36,6 +38,15 @@ pub record IsDecidedAt (nodes : Nodes) (node : Fetched) (place at : ℕ) (new : 
   pub there : new node.id ≡ Some made
   pub rest : (id : ℕ) → IsKept u id → ¬ (id ≡ node.id) → new id ≡ nodes id
 
+-- the node has what it had but for the child of its edge at a place, and all others that stay are
+-- what they were
+pub record IsBaredAt (nodes : Nodes) (node : Fetched) (place : ℕ) (new : Nodes) (u : Table) : Type 0
+  where
+    pub made : Node
+    pub bared : IsBared node.node.value place made
+    pub there : new node.id ≡ Some made
+    pub rest : (id : ℕ) → IsKept u id → ¬ (id ≡ node.id) → new id ≡ nodes id
+
 -- the child is the root, and all nodes that stay are what they were
 pub record IsShrunk (nodes : Nodes) (child : ℕ) (new : Nodes) (u : Table) : Type 0 where
   pub root : u.root ≡ child
@@ -48,6 +59,12 @@ pub record IsDecideStep (root : ℕ) (node : Fetched) (place at : ℕ) (step : S
   pub decided : IsDecided node.node.value place at made
   pub is : step ≡ change_step root node.id made
 
+-- the step that changes a node to one without the child of its edge at a place
+pub record IsBareStep (root : ℕ) (node : Fetched) (place : ℕ) (step : Step) : Type 0 where
+  pub made : Node
+  pub bared : IsBared node.node.value place made
+  pub is : step ≡ change_step root node.id made
+
 -- the step that makes another node the root, and no other change
 abbrev pub root_only : ℕ → Step
 root_only root = record { made = []; changes = []; root = root }
@@ -58,11 +75,19 @@ root_only root = record { made = []; changes = []; root = root }
 abbrev pub unseen_count : Node → ℕ
 unseen_count n = sum_by (λ e. length (drop e.seen (buffer_of n))) (edges_of n)
 
--- the same of a node, if there is one
-abbrev pub unseen_in : Option Node → ℕ
-unseen_in None = 0
-unseen_in (Some n) = unseen_count n
+-- how many children the edges of a node have
+abbrev pub child_count : Node → ℕ
+child_count n = sum_by (λ e. length (edge_names e)) (edges_of n)
 
--- how many messages the edges of all nodes haven't seen, in sum, and the root's level
+-- how much is left to change at a node at most: an edge that sees more messages may get a child
+abbrev pub left_at : Node → ℕ
+left_at n = 2 * unseen_count n + child_count n
+
+-- the same of a node, if there is one
+abbrev pub left_in : Option Node → ℕ
+left_in None = 0
+left_in (Some n) = left_at n
+
+-- the same of all nodes in sum, and the root's level
 abbrev pub left_over : Nodes → Table → ℕ
-left_over nodes t = sum_below t.next (λ id. unseen_in (nodes id)) + t.level t.root
+left_over nodes t = sum_below t.next (λ id. left_in (nodes id)) + t.level t.root

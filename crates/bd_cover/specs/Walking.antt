@@ -1,19 +1,21 @@
--- The walk that looks for a change, and the first one that it finds.
-use Rattle.std.specs.Prelude.{◌≡◌, ℕ, zero, suc, Bool, IsTrue, ◌⊎◌, ◌<◌, ◌≤◌, nat_lt, ◌==◌, ◌&&◌, if◌then◌else◌, List, [], ◌∷◌, reverse, Option, None, Some, slice_get, ⊤}
+-- The walk that looks for a change, and what it finds.
+use Rattle.std.specs.Prelude.{◌≡◌, ℕ, zero, suc, Bool, IsTrue, ◌⊎◌, ◌+◌, ◌<◌, ◌≤◌, nat_le, nat_lt, ◌==◌, ◌&&◌, if◌then◌else◌, List, [], ◌∷◌, reverse, Option, None, Some, ⊤}
 use Rattle.std.specs.List.{sum_by, AllByRecursion}
+use Rattle.bd_limits.specs.Limits.{edge_limit}
 use Rattle.bd_node.specs.declared.node.Edge.{Edge}
 use Rattle.bd_node.specs.declared.node.Node.{Node}
 use Rattle.bd_node.specs.Meaning.{Nodes}
-use Rattle.bd_node.specs.Tables.{Table, IsKept, IsLower}
+use Rattle.bd_node.specs.Tables.{Table, IsLower, sum_below}
 use Rattle.bd_node.specs.Parts.{edges_of, buffer_of, IsEdgeAt}
 use Rattle.bd_path.specs.declared.fetching.Fetched.{Fetched}
 use Rattle.bd_path.specs.Fetching.{IsFetched, IsContents, IsEdgeTo, IsOwn, AreOwn}
 use Rattle.bd_path.specs.Raising.{IsWayUp}
 use Rattle.bd_cover.specs.declared.covering.Cover.TheVariants.{Gone, Elsewhere}
 use Rattle.bd_cover.specs.declared.walking.Reclaim.{Reclaim}
-use Rattle.bd_cover.specs.declared.walking.Reclaim.TheVariants.{Shrink, Drop, Redirect, Push}
+use Rattle.bd_cover.specs.declared.walking.Reclaim.TheVariants.{Shrink, Drop, Redirect, Bare, Push}
 use Rattle.bd_cover.specs.declared.walking.Look.{Look}
 use Rattle.bd_cover.specs.declared.walking.Look.TheVariants.{Change, Clean}
+use Rattle.bd_cover.specs.Bare.{HasChildAt, IsBareAt, HasNoBare}
 use Rattle.bd_cover.specs.Covering.{IsCovered, HasNoCovered, IsFirstCovered, HasCut, HasNoCut, IsFirstCut}
 
 -- of a push what is said of the nodes above its own, of that one and of the place, and of any other
@@ -22,6 +24,7 @@ abbrev pub IfPush : (List Fetched → Fetched → ℕ → Type 0) → Type 0 →
 IfPush push other (Shrink child) = other
 IfPush push other (Drop node place at) = other
 IfPush push other (Redirect node place at) = other
+IfPush push other (Bare node place) = other
 IfPush push other (Push above node place) = push above node place
 
 -- ---- which nodes are looked at
@@ -54,6 +57,10 @@ walk_size nodes t zero id = 0
 walk_size nodes t (suc depth) id =
     suc (sum_by (λ e. at_walked t (walk_size nodes t depth) e.child) (edges_in (nodes id)))
 
+-- how many visits the walk has at a node at most: its own, and one of each edge's child
+abbrev pub node_visits : ℕ
+node_visits = edge_limit + 1
+
 -- ---- what is to be changed at a node
 
 -- a node adds nothing to a child: it has one edge, which leaves out nothing of a key and puts
@@ -74,15 +81,16 @@ IsThin t n child = IsThinWay n child × (1 ≤ t.level child)
 abbrev pub IsNoThinRoot : Table → ℕ → Node → Type 0
 IsNoThinRoot t id n = id ≡ t.root → (child : ℕ) → ¬ IsThin t n child
 
--- nothing is to be changed at the node, where pushes may be asked for
+-- nothing is to be changed at the node for what it has itself, where pushes may be asked for
 pub record IsClean (pushes : Bool) (t : Table) (id : ℕ) (n : Node) : Type 0 where
   pub thin : IsNoThinRoot t id n
   pub cuts : HasNoCovered Gone n
   pub gotos : HasNoCovered Elsewhere n
   pub pushed : IsTrue pushes → HasNoCut n
 
--- the first change to make at a fetched node: a root that adds nothing goes, then come edges that a
--- Cut covers, then those that a Goto covers, then those for which another Cut is pending
+-- the first change to make at a fetched node for what it has itself: a root that adds nothing goes,
+-- then come edges that a Cut covers, then those that a Goto covers, then those for which another Cut
+-- is pending
 abbrev pub IsFirstAt : Bool → Table → Fetched → Reclaim → Type 0
 IsFirstAt pushes t f (Shrink child) = (f.id ≡ t.root) × IsThin t f.node.value child
 IsFirstAt pushes t f (Drop node place at) =
@@ -90,44 +98,43 @@ IsFirstAt pushes t f (Drop node place at) =
 IsFirstAt pushes t f (Redirect node place at) =
     (node ≡ f) × IsNoThinRoot t f.id f.node.value × HasNoCovered Gone f.node.value
     × IsFirstCovered Elsewhere f.node.value place at
+IsFirstAt pushes t f (Bare node place) = ⊥
 IsFirstAt pushes t f (Push above node place) =
     (node ≡ f) × IsNoThinRoot t f.id f.node.value × HasNoCovered Gone f.node.value
     × HasNoCovered Elsewhere f.node.value × IsTrue pushes × IsFirstCut f.node.value place
 
--- ---- the first change
+-- ---- which change is found
 
 -- nothing is to be changed at any node to which the walk leads from this one
 abbrev pub HasNone : Bool → Nodes → Table → ℕ → Type 0
 HasNone pushes nodes t from = (id : ℕ) (n : Node) → IsUnder nodes t id from → nodes id ≡ Some n
-    → IsClean pushes t id n
+    → IsClean pushes t id n × HasNoBare nodes n
 
--- so it is of the nodes of a set that are no higher than a level
-abbrev pub AreCleanUpTo : Bool → Nodes → Table → (ℕ → Bool) → ℕ → Type 0
-AreCleanUpTo pushes nodes t among level = (id : ℕ) → IsTrue (among id) → t.level id ≤ level
-    → HasNone pushes nodes t id
+-- so it is of each node of a set
+abbrev pub AreClean : Bool → Nodes → Table → (ℕ → Bool) → Type 0
+AreClean pushes nodes t among = (id : ℕ) → IsTrue (among id) → HasNone pushes nodes t id
 
--- and of each node that a larger set has beside those of another one
-abbrev pub AddsClean : Bool → Nodes → Table → (ℕ → Bool) → (ℕ → Bool) → Type 0
-AddsClean pushes nodes t old new = (id : ℕ) → IsTrue (new id)
-    → IsTrue (old id) ⊎ HasNone pushes nodes t id
+-- what a set has beside another one is of lower levels
+abbrev pub AddsBelow : Table → ℕ → (ℕ → Bool) → (ℕ → Bool) → Type 0
+AddsBelow t level old new = (id : ℕ) → IsTrue (new id) → IsTrue (old id) ⊎ (t.level id < level)
 
--- the nodes of a set are kept
-abbrev pub AreKept : Table → (ℕ → Bool) → Type 0
-AreKept t among = (id : ℕ) → IsTrue (among id) → IsKept t id
+-- how many kept nodes a set has
+unfoldable pub count_among : Table → (ℕ → Bool) → ℕ
+count_among t among =
+    sum_below t.next (λ id. if nat_le 1 (t.count id) && among id then 1 else 0)
 
--- nor below the edges before a place
-abbrev pub HasNoneBefore : Bool → Nodes → Table → List Edge → ℕ → Type 0
-HasNoneBefore pushes nodes t edges place = (i c : ℕ) (e : Edge) → i < place
-    → slice_get edges i ≡ Some e → IsWalked t e c → HasNone pushes nodes t c
-
--- the walk from a node finds this change first: at the node itself, or below the first of its edges
--- below which there is one
-pub data IsFirst (pushes : Bool) (nodes : Nodes) (t : Table) (step : Reclaim) : ℕ → Type 0 where
+-- the change is to be made at a node to which the walk leads from this one, where nothing is to be
+-- changed at those above it for what they have themselves: the first one for what the node has
+-- itself, or an edge of a node that is clean itself loses a child in which nothing stands
+pub data IsDue (pushes : Bool) (nodes : Nodes) (t : Table) (step : Reclaim) : ℕ → Type 0 where
   here : (f : Fetched) → nodes f.id ≡ Some f.node.value → IsFirstAt pushes t f step
-      → IsFirst pushes nodes t step f.id
+      → IsDue pushes nodes t step f.id
+  bare : (f : Fetched) (place : ℕ) → nodes f.id ≡ Some f.node.value
+      → IsClean pushes t f.id f.node.value → IsBareAt nodes f.node.value place
+      → step ≡ Bare f place → IsDue pushes nodes t step f.id
   below : (id place c : ℕ) (n : Node) (e : Edge) → nodes id ≡ Some n → IsClean pushes t id n
-      → HasNoneBefore pushes nodes t (edges_of n) place → IsEdgeAt n place e → IsWalked t e c
-      → IsFirst pushes nodes t step c → IsFirst pushes nodes t step id
+      → IsEdgeAt n place e → IsWalked t e c → IsDue pushes nodes t step c
+      → IsDue pushes nodes t step id
 
 -- ---- changes that may be made
 
@@ -136,14 +143,17 @@ abbrev pub IsToDo : Table → Reclaim → Type 0
 IsToDo t (Shrink child) = IsLower t (t.level t.root) child × (1 ≤ t.level child)
 IsToDo t (Drop node place at) = IsFetched t node × IsCovered Gone node.node.value place at
 IsToDo t (Redirect node place at) = IsFetched t node × IsCovered Elsewhere node.node.value place at
+IsToDo t (Bare node place) = IsFetched t node × HasChildAt node.node.value place
 IsToDo t (Push above node place) =
     IsFetched t node × HasCut node.node.value place × IsWayUp t node.id (reverse above)
 
--- where it is made, in known nodes: at the root, or at a private node
+-- where it is made, in known nodes: at the root, or at a private node; and nothing stands in a child
+-- that an edge is to lose
 abbrev pub IsMadeAt : Nodes → Table → Reclaim → Type 0
 IsMadeAt nodes t (Shrink child) = (n : Node) × (nodes t.root ≡ Some n) × IsThin t n child
 IsMadeAt nodes t (Drop node place at) = IsOwn nodes t node
 IsMadeAt nodes t (Redirect node place at) = IsOwn nodes t node
+IsMadeAt nodes t (Bare node place) = IsOwn nodes t node × IsBareAt nodes node.node.value place
 IsMadeAt nodes t (Push above node place) = IsOwn nodes t node
 
 -- it may be made there, where those above a push are private too
@@ -185,7 +195,7 @@ IsBelow f step found =
 abbrev pub HasNoneAbove : Reclaim → Type 0
 HasNoneAbove step = IfPush (λ above node place. above ≡ []) ⊤ step
 
--- a fetched node is to be changed so, or nothing is to be changed at it
+-- a fetched node is to be changed so, or nothing is to be changed at it for what it has itself
 abbrev pub IsLook : Bool → Table → Fetched → Look → Type 0
 IsLook pushes t f (Change step) = IsFirstAt pushes t f step × HasNoneAbove step
 IsLook pushes t f (Clean node) = (node ≡ f) × IsClean pushes t f.id f.node.value

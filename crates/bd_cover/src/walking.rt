@@ -1,16 +1,17 @@
-//! The walk that looks for the first change to make.
+//! The walk that looks for a change to make.
 
-ghost use Rattle.std.specs.Prelude.{◌≡◌, ℕ, ◌<◌, ◌≤◌, ◌+◌, ⊤, IfOk, IfSome, MatchOption, Some, nat_eq};
-ghost use Rattle.std.specs.HashSet.{contains, hash_set_len};
+ghost use Rattle.std.specs.Prelude.{◌≡◌, ℕ, ◌<◌, ◌≤◌, ◌+◌, ◌*◌, ⊤, IfOk, IfNone, IfSome, MatchOption, Some, nat_eq};
+ghost use Rattle.std.specs.HashSet.{contains};
 ghost use Rattle.bd_message.specs.KeyMaps.{HasMapCause, NeverWorn};
 ghost use Rattle.bd_node.specs.Frames.{OfSound, OnlyReads};
 ghost use Rattle.bd_node.specs.declared.node.Node.{Node};
 ghost use Rattle.bd_node.specs.Shape.{IsShape};
-ghost use Rattle.bd_node.specs.Tables.{IsKept, kept_count};
+ghost use Rattle.bd_node.specs.Tables.{IsKept, IsTable, kept_count};
 ghost use Rattle.bd_path.specs.Fetching.{IsFetched};
-ghost use Rattle.bd_cover.specs.Walking.{IsWalked, IsThinWay, IsThin, IsLook, IsEdgeLook, IsFirst, HasNone, AreCleanUpTo, AddsClean, AreKept, IsToDo, IsToDoAt, IsFoundFrom, IsFoundIn, IsBelow, walk_size};
+ghost use Rattle.bd_cover.specs.Walking.{IsWalked, IsThinWay, IsThin, IsLook, IsEdgeLook, IsDue, HasNone, AreClean, AddsBelow, count_among, IsToDo, IsToDoAt, IsFoundFrom, IsFoundIn, IsBelow, walk_size, node_visits};
 
 use crate::Cover;
+use crate::baring::bare_place;
 use crate::covering::{first_covered, first_cut};
 use bd_message::MapFault;
 use bd_node::{Edge, Items, Node, NodeStore};
@@ -40,6 +41,12 @@ pub enum Reclaim {
         place: usize,
         at: usize,
     },
+    /// Nothing stands in the child of the edge at the place of the node at any key that the edge asks
+    /// it for: the edge has no child from then on.
+    Bare {
+        node: Fetched,
+        place: usize,
+    },
     /// A Cut is pending for the edge at the place of the node, below those above it: a step of a
     /// flush begins there.
     Push {
@@ -49,20 +56,25 @@ pub enum Reclaim {
     },
 }
 
-/// The first change that is still to be made, and none exactly where there is none. The walk looks
-/// at the root, and at each inner node that an edge of such a node asks and that nothing else
-/// names: at each node first, and then below its edges, in their order. Pushes are passed over
-/// unless `pushes` asks for them. Nothing is changed. At most those nodes are visited, each once, also
-/// where the counts are wrong and the walk comes to a node again.
+/// A change that is still to be made, and none exactly where there is none. The walk looks at the
+/// root, and at each inner node that an edge of such a node asks and that nothing else names: at what
+/// a node has itself first, then below its edges, in their order, and then for edges that ask a child
+/// in which nothing stands. Pushes are passed over unless `pushes` asks for them. Nothing is changed.
+/// The nodes in `passed` are passed over, as at and below them there was nothing to change: those that
+/// this walk comes to so are put there, so that the next walk goes on where this one was. Where
+/// nothing else is left, `passed` is emptied and the walk begins anew; so `passed` says only where it
+/// is worth looking. At most 17 visits are had at each node of a walk, and each node is looked at once
+/// in a walk, also where the counts are wrong and the walk comes to it again.
 pub fn reclaim_next<S: NodeStore>(
     alloc: Global,
     store: &mut S,
+    passed: &mut HashSet<u64>,
     pushes: bool,
 ) -> Result<Option<Reclaim>, MapFault>
-    ensures first { OfSound S.NodeStore store.old
+    ensures due { OfSound S.NodeStore store.old
         (IfOk result (λ found. MatchOption found
         (HasNone pushes (S.nodes store.old) (S.table store.old) (S.table store.old).root)
-        (λ step. IsFirst pushes (S.nodes store.old) (S.table store.old) step
+        (λ step. IsDue pushes (S.nodes store.old) (S.table store.old) step
         (S.table store.old).root))) }
     ensures to_do { IfOk result (λ found. IfSome found (IsToDo (S.table store.old))) }
     ensures at { OfSound S.NodeStore store.old
@@ -72,41 +84,46 @@ pub fn reclaim_next<S: NodeStore>(
     ensures cause { HasMapCause (S.fault_count store.old) (S.fault_count store.new)
         (S.last_failed store.new) (S.bad store.new) NeverWorn result }
     ensures few_visits { S.is_known store.old → S.visit_count store.new
-        ≤ S.visit_count store.old + walk_size (S.nodes store.old) (S.table store.old)
-        ((S.table store.old).level (S.table store.old).root + 1) (S.table store.old).root }
-    ensures once { S.visit_count store.new
-        ≤ S.visit_count store.old + kept_count (S.table store.old) }
+        ≤ S.visit_count store.old + 2 * (node_visits * walk_size (S.nodes store.old)
+        (S.table store.old) ((S.table store.old).level (S.table store.old).root + 1)
+        (S.table store.old).root) }
+    ensures twice { S.visit_count store.new ≤ S.visit_count store.old
+        + 2 * (node_visits * kept_count (S.table store.old))
+        + (S.table store.old).level (S.table store.old).root + node_visits }
 {
     let root = store.root();
-    let mut entered = HashSet::new(alloc);
-    let found = first_from(alloc, store, &mut entered, root, pushes);
-    let _ = entered.len();
-    found
+    if passed.is_empty() {
+        return next_from(alloc, store, passed, root, pushes);
+    }
+    if let Some(step) = next_from(alloc, store, passed, root, pushes)? {
+        return Ok(Some(step));
+    }
+    passed.clear();
+    next_from(alloc, store, passed, root, pushes)
 }
 
-// The first change to make at a node or below it, unless the node was entered before. A push has the
-// nodes above its own, up to this one. Below those that were entered and aren't higher nothing is to
-// be changed, nor below those that are entered here, where nothing is found.
-fn first_from<S: NodeStore>(
+// A change to make at a node or below it, unless the node was passed. A push has the nodes above its
+// own, up to this one. Nodes are put to those that were passed once nothing was found at and below
+// them.
+fn next_from<S: NodeStore>(
     alloc: Global,
     store: &mut S,
-    entered: &mut HashSet<u64>,
+    passed: &mut HashSet<u64>,
     id: u64,
     pushes: bool,
 ) -> Result<Option<Reclaim>, MapFault>
-    requires { IsKept (S.table store.old) id }
-    ensures first { OfSound S.NodeStore store.old
-        (AreCleanUpTo pushes (S.nodes store.old) (S.table store.old) (contains nat_eq entered.old)
-        ((S.table store.old).level id)
+    requires table { IsTable (S.table store.old) }
+    requires kept { IsKept (S.table store.old) id }
+    ensures due { OfSound S.NodeStore store.old
+        (IfOk result (λ found. IfSome found (λ step.
+        IsDue pushes (S.nodes store.old) (S.table store.old) step id))) }
+    ensures none { OfSound S.NodeStore store.old
+        (AreClean pushes (S.nodes store.old) (S.table store.old) (contains nat_eq passed.old)
         → IfOk result (λ found. MatchOption found
-        (HasNone pushes (S.nodes store.old) (S.table store.old) id)
-        (λ step. IsFirst pushes (S.nodes store.old) (S.table store.old) step id))) }
+        (HasNone pushes (S.nodes store.old) (S.table store.old) id) (λ step. ⊤))) }
     ensures clean { OfSound S.NodeStore store.old
-        (AreCleanUpTo pushes (S.nodes store.old) (S.table store.old) (contains nat_eq entered.old)
-        ((S.table store.old).level id)
-        → IfOk result (λ found. MatchOption found
-        (AddsClean pushes (S.nodes store.old) (S.table store.old) (contains nat_eq entered.old)
-        (contains nat_eq entered.new)) (λ step. ⊤))) }
+        (AreClean pushes (S.nodes store.old) (S.table store.old) (contains nat_eq passed.old)
+        → AreClean pushes (S.nodes store.old) (S.table store.old) (contains nat_eq passed.new)) }
     ensures found { IfOk result (λ found. IfSome found (IsFoundFrom (S.table store.old) id)) }
     ensures there { S.is_known store.old
         → IfOk result (λ found. IfSome found (IsFoundIn (S.nodes store.old))) }
@@ -115,14 +132,20 @@ fn first_from<S: NodeStore>(
         (S.last_failed store.new) (S.bad store.new) NeverWorn result }
     ensures few_visits { S.is_known store.old → (depth : ℕ) → (S.table store.old).level id < depth
         → S.visit_count store.new ≤ S.visit_count store.old
-        + walk_size (S.nodes store.old) (S.table store.old) depth id }
-    ensures kept { AreKept (S.table store.old) (contains nat_eq entered.old)
-        → AreKept (S.table store.old) (contains nat_eq entered.new) }
-    ensures once { S.visit_count store.new + hash_set_len entered.old
-        ≤ S.visit_count store.old + hash_set_len entered.new }
+        + node_visits * walk_size (S.nodes store.old) (S.table store.old) depth id }
+    ensures added { AddsBelow (S.table store.old) ((S.table store.old).level id + 1)
+        (contains nat_eq passed.old) (contains nat_eq passed.new) }
+    ensures once { IfOk result (λ found. IfNone found (S.visit_count store.new
+        + node_visits * count_among (S.table store.old) (contains nat_eq passed.old)
+        ≤ S.visit_count store.old
+        + node_visits * count_among (S.table store.old) (contains nat_eq passed.new))) }
+    ensures hardly_more { S.visit_count store.new
+        + node_visits * count_among (S.table store.old) (contains nat_eq passed.old)
+        ≤ S.visit_count store.old
+        + node_visits * count_among (S.table store.old) (contains nat_eq passed.new)
+        + (S.table store.old).level id + node_visits }
 {
-    let added = entered.insert(id)?;
-    if !added {
+    if passed.contains(&id) {
         return Ok(None);
     }
     let here = fetch(store, id)?;
@@ -135,10 +158,14 @@ fn first_from<S: NodeStore>(
         let Some(child) = walked(store, edge) else {
             continue;
         };
-        if let Some(step) = first_from(alloc, store, entered, child, pushes)? {
+        if let Some(step) = next_from(alloc, store, passed, child, pushes)? {
             return Ok(Some(found_below(here, step)?));
         }
     }
+    if let Some(place) = bare_place(alloc, store, &here)? {
+        return Ok(Some(Reclaim::Bare { node: here, place }));
+    }
+    passed.insert(id)?;
     Ok(None)
 }
 
@@ -165,7 +192,7 @@ fn found_below(here: Fetched, step: Reclaim) -> Result<Reclaim, AllocError>
 enum Look {
     // This is to be changed.
     Change(Reclaim),
-    // Nothing is to be changed at this node.
+    // Nothing is to be changed at this node for what it has itself.
     Clean(Fetched),
 }
 

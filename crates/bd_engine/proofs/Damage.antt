@@ -35,7 +35,8 @@ use Rattle.bd_pager.specs.Slots.{IsSpare}
 use Rattle.bd_pager.proofs.FlagLemmas.{taken_held, entry_slot}
 use Rattle.bd_pager.proofs.OpenedLemmas.{search_id, slot_within}
 use Rattle.bd_image.specs.Damage.{IsBadAt, HasNoSoundNodes}
-use Rattle.bd_image.specs.Damage.IsBadAt.{bad_node, unsound_nodes}
+use Rattle.bd_image.specs.Damage.IsFoundBad.{bad_node}
+use Rattle.bd_image.specs.Damage.IsBadAt.{found_bad, unsound_nodes}
 use Rattle.bd_image.specs.Stored.{table_of as stored_table}
 use Rattle.bd_image.specs.Used.{IsOfSlots}
 use Rattle.bd_image.proofs.Frame.{nodes_same}
@@ -232,7 +233,7 @@ module _ {D : Type 0} (image : Image) (live : Super) (p : Paged D) (is_live : Is
       let among : Contains p.saved.entries e = (found.0, found.2, found.3) in
       let none : HasNoGoodNode image (level_at p.saved.entries) e.slot e.level = (λ n good. bad.1 n (subst (λ (s : ℕ). HasNode image s level n) found.4.1 (subst (λ (l : ℕ). HasNode image e.slot l n) found.4.2 good.held))) in
       subst (IsBadAt image) (ap slot_block found.4.1 ∙ sym bad.0)
-      (bad_node live p.saved e (record { live = is_live; table = table; entry = entry_found p.saved.entries e table.0.entries.rising among }) none)
+      (found_bad (slot_block e.slot) (bad_node live p.saved e (record { live = is_live; table = table; entry = entry_found p.saved.entries e table.0.entries.rising among }) none))
 
   bad_place_shown : (id level b : ℕ) (place : Place) → IsPlaceIn p.spare place → IsStoredAs p.spare p.saved.entries id level place → (IsSpare p.spare b → ⊥) → IsBadPlace (Some image) level place b → IsBadAt image b
   bad_place_shown id level b (Memory node own) low stored not bad = absurd bad
@@ -258,7 +259,7 @@ first_shown image live saved b is_live table at (inl (e, start, first)) none =
     let entries : List TableEntry = saved.table.entries in
     let among : Contains entries e = subst (λ (es : List TableEntry). Contains es e) (sym first.there) (middle_among first.front e first.rest) in
     subst (IsBadAt image) (sym start)
-    (bad_node live saved.table e (record { live = is_live; table = table; entry = entry_found entries e table.0.entries.rising among }) first.bad)
+    (found_bad (slot_block e.slot) (bad_node live saved.table e (record { live = is_live; table = table; entry = entry_found entries e table.0.entries.rising among }) first.bad))
 first_shown image live saved b is_live table at (inr (start, good)) none =
     let entries : List TableEntry = saved.table.entries in
     let each : All (HasGoodNode image entries) entries = All-from_recursion (HasGoodNode image entries) entries good in

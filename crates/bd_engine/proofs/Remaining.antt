@@ -1,7 +1,8 @@
 -- How much may be left to change in sound nodes.
-use Rattle.std.proofs.Common.{◌≡◌, ℕ, zero, suc, ◌*◌, ◌≤◌, Bool, true, false, cond, List, [], ◌∷◌, length, drop, refl, ap, arith, inl, inr, length-drop}
+use Rattle.std.proofs.Common.{◌≡◌, ℕ, zero, suc, ◌*◌, ◌≤◌, Bool, true, false, cond, List, [], ◌∷◌, length, drop, Option, None, Some, refl, ap, arith, inl, inr, length-drop}
 use Rattle.std.specs.Prelude.{nat_le}
 use Rattle.std.specs.List.{sum_by}
+use Rattle.std.specs.Option.{option_to_list}
 use Rattle.std.proofs.lemmas.Bool.{cases_lt, leb-false}
 use Rattle.std.proofs.lemmas.List.Sums.{sum_by-cons}
 use Rattle.bd_message.specs.declared.message.Message.{Message}
@@ -11,10 +12,10 @@ use Rattle.bd_node.specs.declared.node.Edge.{Edge}
 use Rattle.bd_node.specs.declared.node.Node.{Node}
 use Rattle.bd_node.specs.declared.node.Node.TheVariants.{Leaf, Inner}
 use Rattle.bd_node.specs.Meaning.{Nodes}
-use Rattle.bd_node.specs.Nodes.{level_of}
+use Rattle.bd_node.specs.Nodes.{edge_names, level_of}
 use Rattle.bd_node.specs.Shape.{IsShape}
 use Rattle.bd_node.specs.Tables.{Table, IsStored, IsSound, kept_count, sum_below}
-use Rattle.bd_cover.specs.Reclaimed.{unseen_count, unseen_in, left_over}
+use Rattle.bd_cover.specs.Reclaimed.{unseen_count, child_count, left_at, left_in, left_over}
 use Rattle.bd_engine.specs.Reclaiming.{most_left}
 
 message_some : (m : Message) → 1 ≤ size m
@@ -40,26 +41,41 @@ unseen_few (Inner level edges buffer) h =
     let few : length buffer ≤ 32768 = omega (arith, messages_few buffer, h.size) in
     omega (arith, h.few, edges_few buffer edges few)
 
-stored_few : (nodes : Nodes) (t : Table) (id : ℕ) → IsSound nodes t → unseen_in (nodes id) ≤ 524288
+child_few : (e : Edge) → length (edge_names e) ≤ 1
+child_few e = elim e.child as (λ (o : Option ℕ). length (option_to_list o) ≤ 1) [ None ↦ omega arith | Some c ↦ omega arith ]
+
+children_few : (es : List Edge) → sum_by (λ (e : Edge). length (edge_names e)) es ≤ length es
+children_few [] = omega arith
+children_few (e ∷ es) = omega (arith, child_few e, children_few es, sum_by-cons (λ (f : Edge). length (edge_names f)) e es)
+
+-- and 16 children
+count_few : (n : Node) → IsShape n → child_count n ≤ 16
+count_few (Leaf entries) h = omega arith
+count_few (Inner level edges buffer) h = omega (arith, h.few, children_few edges)
+
+left_few : (n : Node) → IsShape n → left_at n ≤ 1048592
+left_few n h = omega (arith, unseen_few n h, count_few n h)
+
+stored_few : (nodes : Nodes) (t : Table) (id : ℕ) → IsSound nodes t → left_in (nodes id) ≤ 1048592
 stored_few nodes t id h =
     elim (cases_lt 0 (t.count id)) [
       | inl kept ↦
           let s : IsStored nodes t id = h.each id kept in
-          let is : unseen_in (nodes id) ≡ unseen_count s.node = ap unseen_in s.there in
-          omega (arith, is, unseen_few s.node s.of_table.shape)
+          let is : left_in (nodes id) ≡ left_at s.node = ap left_in s.there in
+          omega (arith, is, left_few s.node s.of_table.shape)
       | inr gone ↦
-          let is : unseen_in (nodes id) ≡ 0 = ap unseen_in (h.others id (omega arith)) in
+          let is : left_in (nodes id) ≡ 0 = ap left_in (h.others id (omega arith)) in
           omega (arith, is)
     ]
 
 -- no more than so much for each kept node
-kept_few : (nodes : Nodes) (t : Table) (id : ℕ) → IsSound nodes t → (b : Bool) → nat_le 1 (t.count id) ≡ b → unseen_in (nodes id) ≤ cond b 1 0 * 524288
+kept_few : (nodes : Nodes) (t : Table) (id : ℕ) → IsSound nodes t → (b : Bool) → nat_le 1 (t.count id) ≡ b → left_in (nodes id) ≤ cond b 1 0 * 1048592
 kept_few nodes t id h true is = omega (arith, stored_few nodes t id h)
 kept_few nodes t id h false is =
-    let none : unseen_in (nodes id) ≡ 0 = ap unseen_in (h.others id (omega (arith, leb-false 1 (t.count id) is))) in
+    let none : left_in (nodes id) ≡ 0 = ap left_in (h.others id (omega (arith, leb-false 1 (t.count id) is))) in
     omega (arith, none)
 
-sum_few : (n : ℕ) (f k : ℕ → ℕ) → ((i : ℕ) → f i ≤ k i * 524288) → sum_below n f ≤ sum_below n k * 524288
+sum_few : (n : ℕ) (f k : ℕ → ℕ) → ((i : ℕ) → f i ≤ k i * 1048592) → sum_below n f ≤ sum_below n k * 1048592
 unfolding sum_below
 sum_few zero f k each = omega arith
 sum_few (suc n) f k each = omega (arith, each n, sum_few n f k each)
@@ -77,4 +93,4 @@ root_low nodes t h =
 pub left_low : (nodes : Nodes) (t : Table) → IsSound nodes t → left_over nodes t ≤ most_left t
 unfolding kept_count
 left_low nodes t h =
-    omega (arith, root_low nodes t h, sum_few t.next (λ id. unseen_in (nodes id)) (λ id. cond (nat_le 1 (t.count id)) 1 0) (λ id. kept_few nodes t id h (nat_le 1 (t.count id)) refl))
+    omega (arith, root_low nodes t h, sum_few t.next (λ id. left_in (nodes id)) (λ id. cond (nat_le 1 (t.count id)) 1 0) (λ id. kept_few nodes t id h (nat_le 1 (t.count id)) refl))

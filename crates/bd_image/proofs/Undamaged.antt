@@ -1,5 +1,5 @@
 -- An image that stands for a tree has no bad block.
-use Rattle.std.proofs.Common.{◌≡◌, ℕ, ◌<◌, ◌≤◌, ◌^◌, List, [], ◌∷◌, ◌++◌, Option, None, Some, sym, ap, subst, ◌∙◌, arith}
+use Rattle.std.proofs.Common.{◌≡◌, ℕ, ◌<◌, ◌≤◌, ◌^◌, inl, inr, List, [], ◌∷◌, ◌++◌, Option, None, Some, sym, ap, subst, ◌∙◌, arith}
 use Rattle.std.specs.List.{AllByRecursion}
 use Rattle.std.specs.Option.{option_map}
 use Rattle.bd_command.specs.Log.{log_record}
@@ -25,18 +25,19 @@ use Rattle.bd_format.specs.Slots.{HasNode, IsLowerLevel, IsGoodNode}
 use Rattle.bd_image.specs.Versions.{version_of, IsLoggedIn}
 use Rattle.bd_table.specs.Entries.{entry_of, level_at}
 use Rattle.bd_image.specs.Stored.{refs_in, level_in, IsNodeAt, HoldsNodes, table_of}
-use Rattle.bd_image.specs.ImageTree.{LeadsOn, records_of, HasTree, ImageStandsFor}
-use Rattle.bd_image.specs.Damage.{PlacedRecord, unplaced, HasRecord, IsTreeAfter, IsNoCommand, IsBadAt}
-use Rattle.bd_image.specs.Damage.IsBadAt.{bad_super, bad_table, bad_node, unsound_nodes, bad_batch, bad_record, refused_record}
+use Rattle.bd_image.specs.ImageTree.{LeadsOn, records_of, HaveTree, HasTree, ImageStandsFor}
+use Rattle.bd_image.specs.Damage.{PlacedRecord, unplaced, HasRecord, IsTreeAfter, IsNoCommand, IsFoundBad, IsNamedAt, IsBadAt}
+use Rattle.bd_image.specs.Damage.IsFoundBad.{bad_super, bad_table, bad_node, bad_batch, bad_record}
+use Rattle.bd_image.specs.Damage.IsBadAt.{found_bad, unsound_nodes, refused_record}
 use Rattle.bd_image.proofs.Leading.{leads_apart, records_split}
-use Rattle.bd_image.proofs.Ones.{AreOne, one_table, one_command}
+use Rattle.bd_image.proofs.Ones.{AreOne, one_table, one_command, one_way, one_base}
 
 -- ---- the superblock and the table are those of the tree
 
-at_super : AreOne → (image : Image) (s o : Super) (t : StoredTable) (place : ℕ) (tree : Tree) (n : ℕ) → HasTree s t place tree n image → IsLive image o → HasTree o t place tree n image
+pub at_super : AreOne → (image : Image) (s o : Super) (t : StoredTable) (place : ℕ) (tree : Tree) (n : ℕ) → HasTree s t place tree n image → IsLive image o → HasTree o t place tree n image
 at_super one image s o t place tree n h live = subst (λ (x : Super). HasTree x t place tree n image) (one.supers image s o h.starts.live live) h
 
-at_table : AreOne → (image : Image) (s : Super) (t u : StoredTable) (place : ℕ) (tree : Tree) (n : ℕ) → HasTree s t place tree n image → HoldsTable image s.slots s.table u
+pub at_table : AreOne → (image : Image) (s : Super) (t u : StoredTable) (place : ℕ) (tree : Tree) (n : ℕ) → HasTree s t place tree n image → HoldsTable image s.slots s.table u
     → HasTree s u place tree n image
 at_table one image s t u place tree n h table = subst (λ (x : StoredTable). HasTree s x place tree n image) (one_table one image s.slots s.table t u h.starts.table table) h
 
@@ -94,24 +95,29 @@ not_refused one image s t place tree n front b c h k logged =
 
 -- ---- the block
 
-not_bad : AreOne → ((image : Image) (s : Super) (b : ℕ) → IsLive image s → ¬ IsDamaged image b)
+not_found : AreOne → ((image : Image) (s : Super) (b : ℕ) → IsLive image s → ¬ IsDamaged image b)
     → ((image : Image) (first epoch block : ℕ) (batches : List Batch) (end : ℕ) → epoch < 2 ^ 64 → IsDamagedAt image first epoch block → AreBatches image first epoch batches end → ⊥)
-    → (image : Image) (s : Super) (t : StoredTable) (place : ℕ) (tree : Tree) (n b : ℕ) → HasTree s t place tree n image → ¬ IsBadAt image b
-not_bad one no_super no_batch image s t place tree n _ h (bad_super b damaged) = no_super image s b h.starts.live damaged
-not_bad one no_super no_batch image s t place tree n _ h (bad_table o live none) =
+    → (image : Image) (s : Super) (t : StoredTable) (place : ℕ) (tree : Tree) (n b : ℕ) → HasTree s t place tree n image → ¬ IsFoundBad image b
+not_found one no_super no_batch image s t place tree n _ h (bad_super b damaged) = no_super image s b h.starts.live damaged
+not_found one no_super no_batch image s t place tree n _ h (bad_table o live none) =
     none t (at_super one image s o t place tree n h live).starts.table
-not_bad one no_super no_batch image s t place tree n _ h (bad_node o u e has none) =
+not_found one no_super no_batch image s t place tree n _ h (bad_node o u e has none) =
     let here : HasTree o u place tree n image = at_table one image o t u place tree n (at_super one image s o t place tree n h has.live) has.table in
     let good = good_node image o u here.nodes e has.table here.starts.stored here.have.sound has.entry in
     none good.0 good.1
+not_found one no_super no_batch image s t place tree n _ h (bad_batch o b live damaged) =
+    let here : HasTree o t place tree n image = at_super one image s o t place tree n h live in
+    no_batch image (log_block o.half) o.epoch b here.batches place live.held.fits.last_epoch damaged here.logged
+not_found one no_super no_batch image s t place tree n _ h (bad_record o front b r has none) =
+    not_no_command one image o t place tree n front b r (at_super one image s o t place tree n h has.live) has none
+
+not_bad : AreOne → ((image : Image) (s : Super) (b : ℕ) → IsLive image s → ¬ IsDamaged image b)
+    → ((image : Image) (first epoch block : ℕ) (batches : List Batch) (end : ℕ) → epoch < 2 ^ 64 → IsDamagedAt image first epoch block → AreBatches image first epoch batches end → ⊥)
+    → (image : Image) (s : Super) (t : StoredTable) (place : ℕ) (tree : Tree) (n b : ℕ) → HasTree s t place tree n image → ¬ IsBadAt image b
+not_bad one no_super no_batch image s t place tree n _ h (found_bad b found) = not_found one no_super no_batch image s t place tree n b h found
 not_bad one no_super no_batch image s t place tree n _ h (unsound_nodes o u live table good none) =
     let here : HasTree o u place tree n image = at_table one image o t u place tree n (at_super one image s o t place tree n h live) table in
     none here.nodes here.starts.stored here.have.sound
-not_bad one no_super no_batch image s t place tree n _ h (bad_batch o b live damaged) =
-    let here : HasTree o t place tree n image = at_super one image s o t place tree n h live in
-    no_batch image (log_block o.half) o.epoch b here.batches place live.held.fits.last_epoch damaged here.logged
-not_bad one no_super no_batch image s t place tree n _ h (bad_record o front b r has none) =
-    not_no_command one image o t place tree n front b r (at_super one image s o t place tree n h has.live) has none
 not_bad one no_super no_batch image s t place tree n _ h (refused_record o front b c has logged refused) =
     let there = not_refused one image o t place tree n front b c (at_super one image s o t place tree n h has.live) has logged in
     refused there.0 there.1 there.2
@@ -120,3 +126,20 @@ pub undamaged : AreOne → ((image : Image) (s : Super) (b : ℕ) → IsLive ima
     → ((image : Image) (first epoch block : ℕ) (batches : List Batch) (end : ℕ) → epoch < 2 ^ 64 → IsDamagedAt image first epoch block → AreBatches image first epoch batches end → ⊥)
     → (image : Image) (tree : Tree) (n b : ℕ) → ImageStandsFor tree n image → ¬ IsBadAt image b
 undamaged one no_super no_batch image tree n b (s, t, place, h) bad = not_bad one no_super no_batch image s t place tree n b h bad
+
+-- ---- a refused command
+
+-- the tree after the same records is one
+one_after : AreOne → (image : Image) (s : Super) (rs : List (List ℕ)) (a b : Tree) → IsTreeAfter image s rs a → IsTreeAfter image s rs b → a ≡ b
+one_after one image s rs a b h k =
+    let table : h.table ≡ k.table = one_table one image s.slots s.table h.table k.table h.starts.table k.starts.table in
+    let stored : HoldsNodes image h.table k.nodes = subst (λ (t : StoredTable). HoldsNodes image t k.nodes) (sym table) k.starts.stored in
+    let have : HaveTree (version_of s) h.table k.nodes k.base = subst (λ (t : StoredTable). HaveTree (version_of s) t k.nodes k.base) (sym table) k.have in
+    let base : h.base ≡ k.base = one_base one image (version_of s) h.table h.nodes k.nodes h.base k.base h.starts.stored stored h.have have in
+    one_way one (version_of s) rs h.base a b h.leads (subst (λ (x : Tree). LeadsOn (version_of s) rs x b) (sym base) k.leads)
+
+pub named_bad : AreOne → (image : Image) (b : ℕ) → IsNamedAt image b → IsBadAt image b
+named_bad one image b (inl found) = found_bad b found
+named_bad one image b (inr r) =
+    refused_record r.superblock r.front b r.command r.has r.logged
+    (λ tree after. subst (λ (x : Tree). ¬ Accepts x r.command) (one_after one image r.superblock (unplaced r.front) r.tree tree r.before after) r.refused)

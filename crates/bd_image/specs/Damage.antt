@@ -1,5 +1,5 @@
 -- Which block is why an image stands for no tree.
-use Rattle.std.specs.Prelude.{◌≡◌, ◌≢◌, ℕ, List, ◌∷◌, ◌++◌, map, slice_index, Some}
+use Rattle.std.specs.Prelude.{◌≡◌, ◌≢◌, ◌⊎◌, ℕ, List, ◌∷◌, ◌++◌, map, slice_index, Some}
 use Rattle.std.specs.List.{flat_map}
 use Rattle.bd_command.specs.Log.{log_record}
 use Rattle.bd_command.specs.declared.Command.{Command}
@@ -84,24 +84,44 @@ pub record IsTreeAfter (image : Image) (s : Super) (records : List (List ℕ)) (
 abbrev pub IsNoCommand : ℕ → List ℕ → Type 0
 IsNoCommand version r = (c : Command) → IsLoggedIn version c → r ≢ log_record c
 
+-- a command stands there that the tree before it refuses
+pub record IsRefusedAt (image : Image) (b : ℕ) : Type 0 where
+  pub superblock : Super
+  pub front : List PlacedRecord
+  pub command : Command
+  pub has : HasRecord image superblock front b (log_record command)
+  pub logged : IsLoggedIn (version_of superblock) command
+  pub tree : Tree
+  pub before : IsTreeAfter image superblock (unplaced front) tree
+  pub refused : ¬ Accepts tree command
+
 -- ---- the block
 
--- a superblock; a table; a node, or a child that it names; good nodes that aren't sound, so that
--- the table's counts are wrong; a batch; a record of no command, or of one that is refused by the
--- tree before it, where there is one
-pub data IsBadAt (image : Image) : ℕ → Type 0 where
-  bad_super : (b : ℕ) → IsDamaged image b → IsBadAt image b
+-- what is found before a command is carried out: a superblock; a table; a node, or a child that it
+-- names; a batch; a record of no command
+pub data IsFoundBad (image : Image) : ℕ → Type 0 where
+  bad_super : (b : ℕ) → IsDamaged image b → IsFoundBad image b
   bad_table : (s : Super) → IsLive image s → HasNoTable image s.slots s.table
-      → IsBadAt image (table_start s)
+      → IsFoundBad image (table_start s)
   bad_node : (s : Super) (t : StoredTable) (e : TableEntry) → HasEntry image s t e
-      → HasNoGoodNode image (level_at t.entries) e.slot e.level → IsBadAt image (slot_block e.slot)
+      → HasNoGoodNode image (level_at t.entries) e.slot e.level
+      → IsFoundBad image (slot_block e.slot)
+  bad_batch : (s : Super) (b : ℕ) → IsLive image s
+      → IsDamagedAt image (log_block s.half) s.epoch b → IsFoundBad image b
+  bad_record : (s : Super) (front : List PlacedRecord) (b : ℕ) (r : List ℕ)
+      → HasRecord image s front b r → IsNoCommand (version_of s) r → IsFoundBad image b
+
+-- it is found so, or a command stands there that is refused
+abbrev pub IsNamedAt : Image → ℕ → Type 0
+IsNamedAt image b = IsFoundBad image b ⊎ IsRefusedAt image b
+
+-- it is found so; or good nodes aren't sound, so that the table's counts are wrong; or a command
+-- stands there that is refused by the tree before it, where there is one
+pub data IsBadAt (image : Image) : ℕ → Type 0 where
+  found_bad : (b : ℕ) → IsFoundBad image b → IsBadAt image b
   unsound_nodes : (s : Super) (t : StoredTable) → IsLive image s
       → HoldsTable image s.slots s.table t → HasGoodNodes image s t → HasNoSoundNodes image t
       → IsBadAt image (table_start s)
-  bad_batch : (s : Super) (b : ℕ) → IsLive image s
-      → IsDamagedAt image (log_block s.half) s.epoch b → IsBadAt image b
-  bad_record : (s : Super) (front : List PlacedRecord) (b : ℕ) (r : List ℕ)
-      → HasRecord image s front b r → IsNoCommand (version_of s) r → IsBadAt image b
   refused_record : (s : Super) (front : List PlacedRecord) (b : ℕ) (c : Command)
       → HasRecord image s front b (log_record c) → IsLoggedIn (version_of s) c
       → ((tree : Tree) → IsTreeAfter image s (unplaced front) tree → ¬ Accepts tree c)

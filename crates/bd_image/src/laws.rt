@@ -21,7 +21,7 @@ ghost use Rattle.bd_image.specs.Stored.{HoldsNodes};
 ghost use Rattle.bd_image.specs.ImageTree.{HaveTree, HasTree, ImageStandsFor};
 ghost use Rattle.bd_image.specs.Used.{used_slots, IsOfSlots, SameUsed};
 ghost use Rattle.bd_image.specs.Synced.{IsLogOf, HasTreeAfter};
-ghost use Rattle.bd_image.specs.Damage.{IsBadAt};
+ghost use Rattle.bd_image.specs.Damage.{IsNamedAt, IsBadAt};
 ghost use Rattle.bd_image.specs.Fresh.{IsFresh, first_super, fresh_image};
 
 use bd_command::laws::log_records_are_prefix_free;
@@ -113,4 +113,16 @@ pub fn trees_are_undamaged()
     log_records_are_prefix_free();
     damage_is_exact();
     damage_excludes_batches();
+}
+
+/// A block that is named, as found or by a command that is refused, is bad.
+pub fn named_blocks_are_bad()
+    ensures { (image : Image) (b : ℕ) → IsNamedAt image b → IsBadAt image b }
+{
+    one_superblock_is_live();
+    tables_are_read_again();
+    images_are_of_one_node();
+    one_represented();
+    batches_are_one();
+    log_records_are_prefix_free();
 }

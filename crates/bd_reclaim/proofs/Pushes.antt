@@ -8,7 +8,7 @@ use Rattle.bd_path.specs.Flushed.{IsFlushed}
 use Rattle.bd_step.specs.Ways.{HasPendingAt}
 use Rattle.bd_cover.specs.Covering.{HasCut}
 use Rattle.bd_cover.specs.Reclaimed.{IsReclaimed}
-use Rattle.bd_cover.proofs.Decisions.{as_reclaimed}
+use Rattle.bd_cover.proofs.Changed.{as_reclaimed}
 
 pub cut_pending : (n : Node) (place : ℕ) → HasCut n place → HasPendingAt n place
 cut_pending n place h = record {

@@ -9,15 +9,16 @@ use Rattle.bd_path.specs.Made.{WearsOut}
 use Rattle.bd_step.specs.Beginning.{IsFoundFrom, IsMadeFrom, IsWornFrom}
 use Rattle.bd_step.specs.Steps.{step_visits}
 use Rattle.bd_cover.specs.declared.walking.Reclaim.{Reclaim}
-use Rattle.bd_cover.specs.declared.walking.Reclaim.TheVariants.{Shrink, Drop, Redirect, Push}
+use Rattle.bd_cover.specs.declared.walking.Reclaim.TheVariants.{Shrink, Drop, Redirect, Bare, Push}
 use Rattle.bd_cover.specs.Walking.{IfPush}
-use Rattle.bd_cover.specs.Reclaimed.{IsDecidedAt, IsShrunk, IsDecideStep, root_only, left_over}
+use Rattle.bd_cover.specs.Reclaimed.{IsDecidedAt, IsBaredAt, IsShrunk, IsDecideStep, IsBareStep, root_only, left_over}
 
 -- what became of the nodes, by the change
 abbrev pub IsReclaimMade : Nodes → Table → Reclaim → Nodes → Table → Type 0
 IsReclaimMade nodes t (Shrink child) new u = IsShrunk nodes child new u
 IsReclaimMade nodes t (Drop node place at) new u = IsDecidedAt nodes node place at new u
 IsReclaimMade nodes t (Redirect node place at) new u = IsDecidedAt nodes node place at new u
+IsReclaimMade nodes t (Bare node place) new u = IsBaredAt nodes node place new u
 IsReclaimMade nodes t (Push above node place) new u = IsMadeFrom nodes t above node place new u
 
 -- why a change is refused: a counter has to pass its last value for all that it adds. One that is no
@@ -28,6 +29,8 @@ IsWornChange known nodes t (Drop node place at) counter =
     WearsOut (IsDecideStep t.root node place at) t counter
 IsWornChange known nodes t (Redirect node place at) counter =
     WearsOut (IsDecideStep t.root node place at) t counter
+IsWornChange known nodes t (Bare node place) counter =
+    WearsOut (IsBareStep t.root node place) t counter
 IsWornChange known nodes t (Push above node place) counter =
     IsWornFrom known nodes t above node place counter
 
@@ -36,6 +39,7 @@ abbrev pub IsRootAfter : Table → Reclaim → Table → Type 0
 IsRootAfter t (Shrink child) u = (u.root ≡ child) × (u.level u.root ≡ t.level child)
 IsRootAfter t (Drop node place at) u = IsNoHigher t u
 IsRootAfter t (Redirect node place at) u = IsNoHigher t u
+IsRootAfter t (Bare node place) u = IsNoHigher t u
 IsRootAfter t (Push above node place) u = IsFoundFrom t above node place u
 
 -- a change makes no nodes, unless it is a push
@@ -48,6 +52,7 @@ abbrev pub reclaim_visits : Table → Reclaim → ℕ
 reclaim_visits t (Shrink child) = 1
 reclaim_visits t (Drop node place at) = 0
 reclaim_visits t (Redirect node place at) = 0
+reclaim_visits t (Bare node place) = 0
 reclaim_visits t (Push above node place) = step_visits t
 
 -- a change leaves less to change, unless it is a push

@@ -7,13 +7,14 @@ ghost use Rattle.bd_path.specs.Made.{AreKnown, WearsOut};
 ghost use Rattle.bd_path.specs.Fetching.{IsFetched, IsOwn};
 ghost use Rattle.bd_path.specs.Flushed.{IsNoHigher};
 ghost use Rattle.bd_cover.specs.declared.covering.Cover.{Cover};
+ghost use Rattle.bd_cover.specs.Bare.{HasChildAt, IsBareAt};
 ghost use Rattle.bd_cover.specs.Covering.{IsCovered};
 ghost use Rattle.bd_cover.specs.Walking.{IsToDo, IsToDoAt};
-ghost use Rattle.bd_cover.specs.Reclaimed.{IsReclaimed, IsDecidedAt, IsDecideStep, left_over};
+ghost use Rattle.bd_cover.specs.Reclaimed.{IsReclaimed, IsDecidedAt, IsDecideStep, IsBaredAt, IsBareStep, left_over};
 ghost use Rattle.bd_reclaim.specs.Changes.{IsReclaimMade, IsRootAfter, IsNextAfter, LeavesLess, IsWornChange, reclaim_visits};
 
 use crate::pushing::push_from;
-use bd_cover::{Reclaim, decide_step, shrink};
+use bd_cover::{Reclaim, bare_step, decide_step, shrink};
 use bd_message::MapFault;
 use bd_node::NodeStore;
 use bd_path::Fetched;
@@ -53,6 +54,7 @@ pub fn reclaim_step<S: NodeStore>(
         Reclaim::Shrink { child } => shrink(alloc, store, child),
         Reclaim::Drop { node, place, at } => change_edge(alloc, store, &node, place, at),
         Reclaim::Redirect { node, place, at } => change_edge(alloc, store, &node, place, at),
+        Reclaim::Bare { node, place } => bare_edge(alloc, store, &node, place),
         Reclaim::Push { above, node, place } => push_from(alloc, store, above, node, place),
     }
 }
@@ -90,5 +92,42 @@ fn change_edge<S: NodeStore>(
 {
     let root = store.root();
     let step = decide_step(alloc, root, node, place, at)?;
+    store.commit(step)
+}
+
+// Takes the child of the edge at a place of a private node away, in which nothing stands at any key
+// that the edge asks it for.
+fn bare_edge<S: NodeStore>(
+    alloc: Global,
+    store: &mut S,
+    node: &Fetched,
+    place: usize,
+) -> Result<(), MapFault>
+    requires fetched { IsFetched (S.table store.old) node.now }
+    requires child { HasChildAt node.now.node.value place }
+    requires own { OfSound S.NodeStore store.old
+        (IsOwn (S.nodes store.old) (S.table store.old) node.now) }
+    requires bare { OfSound S.NodeStore store.old
+        (IsBareAt (S.nodes store.old) node.now.node.value place) }
+    ensures reclaimed { OfSound S.NodeStore store.old
+        (OnOk result (IsReclaimed (S.nodes store.old) (S.table store.old)
+        (S.nodes store.new) (S.table store.new))) }
+    ensures bared { OfSound S.NodeStore store.old
+        (OnOk result (IsBaredAt (S.nodes store.old) node.now place
+        (S.nodes store.new) (S.table store.new))) }
+    ensures falls { OfSound S.NodeStore store.old
+        (OnOk result (left_over (S.nodes store.new) (S.table store.new)
+        < left_over (S.nodes store.old) (S.table store.old))) }
+    ensures next { OnOk result ((S.table store.new).next ≡ (S.table store.old).next) }
+    ensures root { OnOk result (IsNoHigher (S.table store.old) (S.table store.new)) }
+    ensures stays { Stays S.NodeStore store.old store.new }
+    ensures err { OnErr result (OnlyReads S.NodeStore store.old store.new) }
+    ensures few_visits { S.visit_count store.new ≤ S.visit_count store.old }
+    ensures cause { HasMapCause (S.fault_count store.old) (S.fault_count store.new)
+        (S.last_failed store.new) (S.bad store.new) (WearsOut (IsBareStep (S.table store.old).root
+        node.now place) (S.table store.old)) result }
+{
+    let root = store.root();
+    let step = bare_step(alloc, root, node, place)?;
     store.commit(step)
 }

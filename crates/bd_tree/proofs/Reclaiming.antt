@@ -1,5 +1,5 @@
 -- What the tree has after a call that failed, and after a change of reclaiming.
-use Rattle.std.proofs.Common.{◌≡◌, ℕ, List, ap, ◌∙◌, Result, Ok, Err}
+use Rattle.std.proofs.Common.{ap, ◌∙◌, Result, Ok, Err}
 use Rattle.std.specs.Prelude.{OnOk, OnErr}
 use Rattle.bd_message.specs.KeyMaps.{SameAt}
 use Rattle.bd_node.specs.declared.store.NodeStore.{Ghosts}

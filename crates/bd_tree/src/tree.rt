@@ -14,7 +14,7 @@ ghost use Rattle.bd_node.specs.Stores.{FitsRoot, visited, AreVisits};
 ghost use Rattle.bd_query.specs.Asks.{AreVisitsOfWay, AreVisitsOfPart, AreVisitsOfWays, AreVisitsOfSome};
 ghost use Rattle.bd_graft.specs.Grafting.{IsGrown, IsGraftStep, IsWalkOf, AreOthersSame, IsWornForGraft, IsWornByGraft, OnWorn};
 ghost use Rattle.bd_path.specs.Made.{AreKnown};
-ghost use Rattle.bd_cover.specs.Walking.{IsFirst, HasNone, IsToDo, IsToDoAt, walk_size};
+ghost use Rattle.bd_cover.specs.Walking.{IsDue, HasNone, IsToDo, IsToDoAt, walk_size, node_visits};
 ghost use Rattle.bd_cover.specs.Reclaimed.{IsReclaimed};
 ghost use Rattle.bd_reclaim.specs.Changes.{IsReclaimMade, IsRootAfter, IsNextAfter, LeavesLess, reclaim_visits, IsWornChange};
 ghost use Rattle.bd_step.specs.Settling.{IsSettled, IsSettleStep, IsSettleFound, IsWornToSettle};
@@ -32,6 +32,7 @@ use bd_reclaim::reclaim_step;
 use bd_scan::Found;
 use bd_step::{flush_step, settle_step};
 use std::alloc::Global;
+use std::collections::HashSet;
 use std::marker::Model;
 
 /// A tree of nodes, seen as the store that it stands on. It takes its memory of an allocator.
@@ -276,15 +277,21 @@ impl<S: NodeStore> Tree<S> {
         Ok(())
     }
 
-    /// The first change of reclaiming that is still to be made, and none exactly where there is
-    /// none; pushes are passed over unless `pushes` asks for them. Only the root and inner nodes that
-    /// nothing else names are visited, each at most once.
-    pub fn reclaim_next(&mut self, pushes: bool) -> Result<Option<Reclaim>, MapFault>
-        ensures first { OfSound S.NodeStore self.old.store
+    /// A change of reclaiming that is still to be made, and none exactly where there is none; pushes
+    /// are passed over unless `pushes` asks for them. The nodes in `passed` are passed over first, and
+    /// it gets those at and below which nothing was found, for the next call: it says only where it is
+    /// worth looking. Only the root and inner nodes that nothing else names are looked at, each at most
+    /// twice, with at most 17 visits.
+    pub fn reclaim_next(
+        &mut self,
+        passed: &mut HashSet<u64>,
+        pushes: bool,
+    ) -> Result<Option<Reclaim>, MapFault>
+        ensures due { OfSound S.NodeStore self.old.store
             (IfOk result (λ found. MatchOption found
             (HasNone pushes (S.nodes self.old.store) (S.table self.old.store)
             (S.table self.old.store).root)
-            (λ step. IsFirst pushes (S.nodes self.old.store) (S.table self.old.store) step
+            (λ step. IsDue pushes (S.nodes self.old.store) (S.table self.old.store) step
             (S.table self.old.store).root))) }
         ensures to_do { IfOk result (λ found. IfSome found (IsToDo (S.table self.old.store))) }
         ensures at { OfSound S.NodeStore self.old.store
@@ -294,15 +301,16 @@ impl<S: NodeStore> Tree<S> {
         ensures cause { HasMapCause (S.fault_count self.old.store) (S.fault_count self.new.store)
             (S.last_failed self.new.store) (S.bad self.new.store) NeverWorn result }
         ensures few_visits { S.is_known self.old.store → S.visit_count self.new.store
-            ≤ S.visit_count self.old.store + walk_size (S.nodes self.old.store)
-            (S.table self.old.store)
+            ≤ S.visit_count self.old.store + 2 * (node_visits * walk_size
+            (S.nodes self.old.store) (S.table self.old.store)
             ((S.table self.old.store).level (S.table self.old.store).root + 1)
-            (S.table self.old.store).root }
-        ensures once { S.visit_count self.new.store
-            ≤ S.visit_count self.old.store + kept_count (S.table self.old.store) }
+            (S.table self.old.store).root) }
+        ensures twice { S.visit_count self.new.store ≤ S.visit_count self.old.store
+            + 2 * (node_visits * kept_count (S.table self.old.store))
+            + (S.table self.old.store).level (S.table self.old.store).root + node_visits }
         ensures walk { self.new.walk ≡ self.old.walk }
     {
-        reclaim_next(self.alloc, &mut self.store, pushes)
+        reclaim_next(self.alloc, &mut self.store, passed, pushes)
     }
 
     /// Makes a change of reclaiming that `reclaim_next` just found: what the tree has stays. A push

@@ -1,13 +1,14 @@
 -- What reclaiming leaves.
-use Rattle.std.proofs.Common.{◌≡◌, ℕ, ◌<◌, sym, ap, ◌∙◌, arith, inl, inr}
+use Rattle.std.proofs.Common.{◌≡◌, ℕ, ◌<◌, sym, subst, ap, ◌∙◌, arith, inl, inr}
 use Rattle.std.proofs.lemmas.Bool.{cases_lt}
 use Rattle.std.specs.Prelude.{Some}
 use Rattle.bd_node.specs.declared.node.Node.{Node}
 use Rattle.bd_cover.specs.declared.covering.Cover.TheVariants.{Gone}
+use Rattle.bd_cover.specs.Bare.{HasNoBare}
 use Rattle.bd_cover.specs.Covering.{HasNoCovered}
 use Rattle.bd_cover.specs.Walking.IsUnder.{itself}
 use Rattle.bd_cover.specs.declared.walking.Reclaim.{Reclaim}
-use Rattle.bd_cover.specs.declared.walking.Reclaim.TheVariants.{Shrink, Drop, Redirect, Push}
+use Rattle.bd_cover.specs.declared.walking.Reclaim.TheVariants.{Shrink, Drop, Redirect, Bare, Push}
 use Rattle.bd_view.specs.Views.{View, changed_count, free_slots}
 use Rattle.bd_view.specs.Reclaiming.{HasRoomFor, IsReclaim, IsReclaimFull, edge_need}
 use Rattle.bd_view.specs.Reclaiming.IsReclaimFull.{first, edge, last}
@@ -16,10 +17,16 @@ use Rattle.bd_view.proofs.Saved.{saves_all}
 pub reclaim_all : (old new : View) → IsReclaim old new → changed_count new ≡ 0
 reclaim_all old new h = saves_all h.last new h.ends
 
+-- the root is what it was before the last checkpoint
+root_before : (old new : View) (n : Node) (h : IsReclaim old new) → new.tree.nodes new.tree.table.root ≡ Some n → h.last.tree.nodes h.last.tree.table.root ≡ Some n
+root_before old new n h there = sym (ap (λ (v : View). v.tree.nodes v.tree.table.root) h.ends.after) ∙ there
+
 pub reclaim_root : (old new : View) (n : Node) → IsReclaim old new → new.tree.nodes new.tree.table.root ≡ Some n → HasNoCovered Gone n
-reclaim_root old new n h there =
-    let same : new.tree.nodes new.tree.table.root ≡ h.last.tree.nodes h.last.tree.table.root = ap (λ (v : View). v.tree.nodes v.tree.table.root) h.ends.after in
-    (h.whole h.last.tree.table.root n itself (sym same ∙ there)).cuts
+reclaim_root old new n h there = (h.whole h.last.tree.table.root n itself (root_before old new n h there)).0.cuts
+
+pub reclaim_bare : (old new : View) (n : Node) → IsReclaim old new → new.tree.nodes new.tree.table.root ≡ Some n → HasNoBare new.tree.nodes n
+reclaim_bare old new n h there =
+    subst (λ (v : View). HasNoBare v.tree.nodes n) (sym h.ends.after) (h.whole h.last.tree.table.root n itself (root_before old new n h there)).1
 
 -- ---- where it is refused
 
@@ -27,6 +34,7 @@ edge_short : (step : Reclaim) (v : View) → (HasRoomFor step v → ⊥) → fre
 edge_short (Shrink child) v short = absurd (short tt)
 edge_short (Drop node place at) v short = elim (cases_lt (free_slots v) (edge_need v)) [ inl few ↦ few | inr room ↦ absurd (short room) ]
 edge_short (Redirect node place at) v short = elim (cases_lt (free_slots v) (edge_need v)) [ inl few ↦ few | inr room ↦ absurd (short room) ]
+edge_short (Bare node place) v short = elim (cases_lt (free_slots v) (edge_need v)) [ inl few ↦ few | inr room ↦ absurd (short room) ]
 edge_short (Push above node place) v short = absurd (short tt)
 
 pub reclaim_short : (old new : View) (free need : ℕ) → IsReclaimFull old free need new → (free ≡ free_slots new) × (free < need)

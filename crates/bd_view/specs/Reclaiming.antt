@@ -1,8 +1,8 @@
 -- How reclaiming moves the view of a volume on a device.
 use Rattle.std.specs.Prelude.{◌≡◌, ℕ, ◌+◌, ◌≤◌, ◌&&◌, nat_le, nat_lt, Bool, ⊤}
 use Rattle.bd_cover.specs.declared.walking.Reclaim.{Reclaim}
-use Rattle.bd_cover.specs.declared.walking.Reclaim.TheVariants.{Shrink, Drop, Redirect, Push}
-use Rattle.bd_cover.specs.Walking.{IsFirst, HasNone}
+use Rattle.bd_cover.specs.declared.walking.Reclaim.TheVariants.{Shrink, Drop, Redirect, Bare, Push}
+use Rattle.bd_cover.specs.Walking.{IsDue, HasNone}
 use Rattle.bd_cover.specs.Reclaimed.{IsReclaimed}
 use Rattle.bd_reclaim.specs.Changes.{IsReclaimMade}
 use Rattle.bd_view.specs.Views.{View, height, free_slots, save_slots}
@@ -29,6 +29,7 @@ abbrev pub HasRoomFor : Reclaim → View → Type 0
 HasRoomFor (Shrink child) v = ⊤
 HasRoomFor (Drop node place at) v = edge_need v ≤ free_slots v
 HasRoomFor (Redirect node place at) v = edge_need v ≤ free_slots v
+HasRoomFor (Bare node place) v = edge_need v ≤ free_slots v
 HasRoomFor (Push above node place) v = ⊤
 
 -- how many pushes it is
@@ -36,11 +37,12 @@ abbrev pub pushes_in : Reclaim → ℕ
 pushes_in (Shrink child) = 0
 pushes_in (Drop node place at) = 0
 pushes_in (Redirect node place at) = 0
+pushes_in (Bare node place) = 0
 pushes_in (Push above node place) = 1
 
--- after so many pushes this change is the first one to make
-abbrev pub IsNextChange : ℕ → Reclaim → View → Type 0
-IsNextChange pushes change v = IsFirst (allows_push pushes v) v.tree.nodes v.tree.table change
+-- after so many pushes this change is due
+abbrev pub IsDueChange : ℕ → Reclaim → View → Type 0
+IsDueChange pushes change v = IsDue (allows_push pushes v) v.tree.nodes v.tree.table change
     v.tree.table.root
 
 -- and none is left to make
@@ -50,7 +52,7 @@ HasNoChange pushes v =
 
 -- the change was made, for which slots were free
 pub record Reclaims (pushes : ℕ) (change : Reclaim) (old new : View) : Type 0 where
-  pub next : IsNextChange pushes change old
+  pub next : IsDueChange pushes change old
   pub room : HasRoomFor change old
   pub made : IsReclaimMade old.tree.nodes old.tree.table change new.tree.nodes new.tree.table
   pub reclaimed : IsReclaimed old.tree.nodes old.tree.table new.tree.nodes new.tree.table
@@ -59,7 +61,7 @@ pub record Reclaims (pushes : ℕ) (change : Reclaim) (old new : View) : Type 0 
 
 -- a checkpoint was made, since too few slots were free for the change
 pub record SavesBetween (pushes : ℕ) (change : Reclaim) (old new : View) : Type 0 where
-  pub next : IsNextChange pushes change old
+  pub next : IsDueChange pushes change old
   pub short : ¬ HasRoomFor change old
   pub saves : Saves old new
 
@@ -91,7 +93,7 @@ pub record IsReclaim (old new : View) : Type 0 where
 pub data IsReclaimFull (old : View) (free need : ℕ) : View → Type 0 where
   first : IsCheckpointFull old free need → IsReclaimFull old free need old
   edge : (pushes : ℕ) (step : Reclaim) (new : View) → HasReclaimed pushes old new
-      → IsNextChange pushes step new → ¬ HasRoomFor step new → free ≡ free_slots new
+      → IsDueChange pushes step new → ¬ HasRoomFor step new → free ≡ free_slots new
       → need ≡ edge_need new → CannotSave new → IsReclaimFull old free need new
   last : (pushes : ℕ) (new : View) → HasReclaimed pushes old new → HasNoChange pushes new
       → IsCheckpointFull new free need → IsReclaimFull old free need new

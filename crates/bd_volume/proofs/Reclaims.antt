@@ -12,14 +12,14 @@ use Rattle.bd_node.specs.Meaning.{Nodes}
 use Rattle.bd_node.specs.Steps.{IsWornBy}
 use Rattle.bd_node.specs.Tables.{Table, IsSound}
 use Rattle.bd_cover.specs.declared.walking.Reclaim.{Reclaim}
-use Rattle.bd_cover.specs.declared.walking.Reclaim.TheVariants.{Shrink, Drop, Redirect, Push}
+use Rattle.bd_cover.specs.declared.walking.Reclaim.TheVariants.{Shrink, Drop, Redirect, Bare, Push}
 use Rattle.bd_cover.specs.Reclaimed.{left_over, root_only}
 use Rattle.bd_reclaim.specs.Changes.{IsWornChange, LeavesLess}
-use Rattle.bd_cover.specs.Walking.{IsFirst, IfPush}
-use Rattle.bd_cover.specs.Walking.IsFirst.{here, below}
+use Rattle.bd_cover.specs.Walking.{IsDue, IfPush}
+use Rattle.bd_cover.specs.Walking.IsDue.{here, bare, below}
 use Rattle.bd_view.specs.Views.{View, changed_count, free_slots}
 use Rattle.bd_view.specs.Moves.{Saves}
-use Rattle.bd_view.specs.Reclaiming.{push_limit, allows_push, push_need, pushes_in, HasRoomFor, IsNextChange, HasNoChange, Reclaims, AreReclaims}
+use Rattle.bd_view.specs.Reclaiming.{push_limit, allows_push, push_need, pushes_in, HasRoomFor, IsDueChange, HasNoChange, Reclaims, AreReclaims}
 use Rattle.bd_view.specs.Reclaiming.AreReclaims.{change, save}
 use Rattle.bd_view.proofs.Saved.{saves_all}
 use Rattle.bd_device.specs.declared.device.Device.{Ghosts}
@@ -39,14 +39,16 @@ use Rattle.bd_volume.proofs.Worn.{from_where}
 -- ---- pushes
 
 -- a push comes only where pushes were asked for
-pushes_asked : (pushes : Bool) (nodes : Nodes) (t : Table) (step : Reclaim) (id : ℕ) → IsFirst pushes nodes t step id → 1 ≤ pushes_in step → IsTrue pushes
-pushes_asked pushes nodes t (Shrink child) id first some = absurd (omega (arith, some))
-pushes_asked pushes nodes t (Drop node place at) id first some = absurd (omega (arith, some))
-pushes_asked pushes nodes t (Redirect node place at) id first some = absurd (omega (arith, some))
-pushes_asked pushes nodes t (Push above node place) id (here f there at) some = at.4
-pushes_asked pushes nodes t (Push above node place) _ (below i p c n e there clean before edge walked first) some = pushes_asked pushes nodes t (Push above node place) c first some
+pushes_asked : (pushes : Bool) (nodes : Nodes) (t : Table) (step : Reclaim) (id : ℕ) → IsDue pushes nodes t step id → 1 ≤ pushes_in step → IsTrue pushes
+pushes_asked pushes nodes t (Shrink child) id due some = absurd (omega (arith, some))
+pushes_asked pushes nodes t (Drop node place at) id due some = absurd (omega (arith, some))
+pushes_asked pushes nodes t (Redirect node place at) id due some = absurd (omega (arith, some))
+pushes_asked pushes nodes t (Bare node place) id due some = absurd (omega (arith, some))
+pushes_asked pushes nodes t (Push above node place) _ (here f there at) some = at.4
+pushes_asked pushes nodes t (Push above node place) _ (bare f at there clean is_bare is) some = cc
+pushes_asked pushes nodes t (Push above node place) _ (below i p c n e there clean edge walked due) some = pushes_asked pushes nodes t (Push above node place) c due some
 
-next_pushes : (before : ℕ) (step : Reclaim) (v : View) → IsNextChange before step v → 1 ≤ pushes_in step → before < push_limit
+next_pushes : (before : ℕ) (step : Reclaim) (v : View) → IsDueChange before step v → 1 ≤ pushes_in step → before < push_limit
 next_pushes before step v next some =
     ltb-true before push_limit (and_parts (nat_le (push_need v) (free_slots v)) (nat_lt before push_limit) (pushes_asked (allows_push before v) v.tree.nodes v.tree.table step v.tree.table.root next some)).1
 
@@ -54,10 +56,11 @@ push_few : (step : Reclaim) → pushes_in step ≤ 1
 push_few (Shrink child) = omega arith
 push_few (Drop node place at) = omega arith
 push_few (Redirect node place at) = omega arith
+push_few (Bare node place) = omega arith
 push_few (Push above node place) = omega arith
 
 -- after a change there were no more pushes than may be
-next_few : (before : ℕ) (step : Reclaim) (v : View) → IsNextChange before step v → before ≤ push_limit → before + pushes_in step ≤ push_limit
+next_few : (before : ℕ) (step : Reclaim) (v : View) → IsDueChange before step v → before ≤ push_limit → before + pushes_in step ≤ push_limit
 next_few before step v next few =
     elim (cases_lt 0 (pushes_in step)) [
       | inl some ↦ omega (arith, push_few step, next_pushes before step v next some)
@@ -65,7 +68,7 @@ next_few before step v next few =
     ]
 
 -- and their number stands in a u64
-pub next_low : (before : ℕ) (step : Reclaim) (v : View) → IsNextChange before step v → before < 2 ^ 64 → before + pushes_in step < 2 ^ 64
+pub next_low : (before : ℕ) (step : Reclaim) (v : View) → IsDueChange before step v → before < 2 ^ 64 → before + pushes_in step < 2 ^ 64
 next_low before step v next low =
     elim (cases_lt 0 (pushes_in step)) [
       | inl some ↦ omega (arith, push_few step, next_pushes before step v next some)
@@ -103,6 +106,7 @@ made_less : (step : Reclaim) (count before after lo ln fo fn most : ℕ) → IfP
 made_less (Shrink child) count before after lo ln fo fn most less is unpushed low h = omega (arith, less, low, h)
 made_less (Drop node place at) count before after lo ln fo fn most less is unpushed low h = omega (arith, less, low, h)
 made_less (Redirect node place at) count before after lo ln fo fn most less is unpushed low h = omega (arith, less, low, h)
+made_less (Bare node place) count before after lo ln fo fn most less is unpushed low h = omega (arith, less, low, h)
 made_less (Push above node place) count before after lo ln fo fn most less is unpushed low h = absurd (unpushed (omega (arith, is)))
 
 pub within_next : (count most before after : ℕ) (old new : View) → IsWithin count most old → ChangesOnce before after old new → (before < after → ⊥) → IsWithin (count + 1) most new
@@ -158,13 +162,13 @@ pub none_left : (pushes : ℕ) (a b : View) → b ≡ a → HasNoChange pushes a
 none_left pushes a b same h = (same, subst (λ (v : View). HasNoChange pushes v) (sym same) h)
 
 -- a checkpoint was made for it
-pub saved_once : (pushes : ℕ) (step : Reclaim) (a b d : View) → b ≡ a → IsNextChange pushes step a → (HasRoomFor step b → ⊥) → Saves b d → 1 ≤ changed_count b → ChangesOnce pushes pushes a d
+pub saved_once : (pushes : ℕ) (step : Reclaim) (a b d : View) → b ≡ a → IsDueChange pushes step a → (HasRoomFor step b → ⊥) → Saves b d → 1 ≤ changed_count b → ChangesOnce pushes pushes a d
 saved_once pushes step a b d same next short saves some =
     subst (λ (v : View). ChangesOnce pushes pushes v d) same
-    (saved step (record { next = subst (λ (v : View). IsNextChange pushes step v) (sym same) next; short = short; saves = saves }) some refl)
+    (saved step (record { next = subst (λ (v : View). IsDueChange pushes step v) (sym same) next; short = short; saves = saves }) some refl)
 
 -- it was made
-pub made_once : (pushes after : ℕ) (step : Reclaim) (a b d : View) → b ≡ a → IsNextChange pushes step a → Reclaims pushes step b d → LeavesLess b.tree.nodes b.tree.table step d.tree.nodes d.tree.table → after ≡ pushes + pushes_in step → ChangesOnce pushes after a d
+pub made_once : (pushes after : ℕ) (step : Reclaim) (a b d : View) → b ≡ a → IsDueChange pushes step a → Reclaims pushes step b d → LeavesLess b.tree.nodes b.tree.table step d.tree.nodes d.tree.table → after ≡ pushes + pushes_in step → ChangesOnce pushes after a d
 made_once pushes after step a b d same next done less is =
     subst (λ (v : View). ChangesOnce pushes after v d) same (made step done less is)
 
@@ -175,6 +179,7 @@ never_by_change : (K : Type 0) (nodes : Nodes) (t : Table) (step : Reclaim) (whi
 never_by_change K nodes t (Shrink child) which unworn other h = unworn (root_only child) h
 never_by_change K nodes t (Drop node place at) which unworn other h = unworn h.step h.worn
 never_by_change K nodes t (Redirect node place at) which unworn other h = unworn h.step h.worn
+never_by_change K nodes t (Bare node place) which unworn other h = unworn h.step h.worn
 never_by_change K nodes t (Push above node place) which unworn other h =
     elim h.worn [
       | inl w ↦ unworn w.step w.worn
@@ -186,10 +191,11 @@ worn_where : (K L : Type 0) (nodes : Nodes) (t : Table) (step : Reclaim) (which 
 worn_where K L nodes t (Shrink child) which knows h = h
 worn_where K L nodes t (Drop node place at) which knows h = h
 worn_where K L nodes t (Redirect node place at) which knows h = h
+worn_where K L nodes t (Bare node place) which knows h = h
 worn_where K L nodes t (Push above node place) which knows h = from_where K L nodes t (record { above = above; parent = node; place = place }) which knows h
 
--- the counter has no room for the next change
-worn_next : (K : Type 0) (which : Counter) (pushes : ℕ) (step : Reclaim) (v : View) → (IsSound v.tree.nodes v.tree.table → K) → IsNextChange pushes step v → IsWornChange K v.tree.nodes v.tree.table step which → IsWornToReclaim which v
+-- the counter has no room for a change that is due
+worn_next : (K : Type 0) (which : Counter) (pushes : ℕ) (step : Reclaim) (v : View) → (IsSound v.tree.nodes v.tree.table → K) → IsDueChange pushes step v → IsWornChange K v.tree.nodes v.tree.table step which → IsWornToReclaim which v
 worn_next K Count pushes step v knows next h = never_by_change K v.tree.nodes v.tree.table step Count (λ one w. w) (λ e. cc) h
 worn_next K NextId pushes step v knows next h = record { pushes = pushes; change = step; next = next; worn = worn_where K (IsSound v.tree.nodes v.tree.table) v.tree.nodes v.tree.table step NextId knows h }
 worn_next K Level pushes step v knows next h = record { pushes = pushes; change = step; next = next; worn = worn_where K (IsSound v.tree.nodes v.tree.table) v.tree.nodes v.tree.table step Level knows h }
@@ -205,7 +211,7 @@ look_fails m n last bad pushes v (map.Worn which) good h = absurd h
 look_fails m n last bad pushes v map.NoMemory good h = tt
 
 -- it couldn't be made
-pub change_fails : (K : Type 0) (m n : ℕ) (last : Bool) (bad : ℕ → Type 0) (pushes : ℕ) (step : Reclaim) (a b : View) (fault : MapFault) → ((block : ℕ) → bad block → ⊥) → (IsSound a.tree.nodes a.tree.table → K) → IsNextChange pushes step a → b ≡ a
+pub change_fails : (K : Type 0) (m n : ℕ) (last : Bool) (bad : ℕ → Type 0) (pushes : ℕ) (step : Reclaim) (a b : View) (fault : MapFault) → ((block : ℕ) → bad block → ⊥) → (IsSound a.tree.nodes a.tree.table → K) → IsDueChange pushes step a → b ≡ a
     → IsCause m n last bad (IsWornChange K a.tree.nodes a.tree.table step) fault → IsChangeFault (fault_of fault) pushes b
 change_fails K m n last bad pushes step a b map.DeviceFault good knows next same h = tt
 change_fails K m n last bad pushes step a b (map.Damaged block) good knows next same h = good block h

@@ -6,14 +6,15 @@ use Rattle.bd_cover.specs.declared.walking.Reclaim.{Reclaim}
 use Rattle.bd_reclaim.specs.Changes.{LeavesLess}
 use Rattle.bd_view.specs.Views.{View, changed_count, free_slots, save_slots}
 use Rattle.bd_view.specs.Moves.{CannotSave}
-use Rattle.bd_view.specs.Reclaiming.{push_limit, edge_need, pushes_in, HasRoomFor, IsNextChange, HasNoChange, Reclaims, SavesBetween, AreReclaims, IsReclaimFull}
+use Rattle.bd_view.specs.Reclaiming.{push_limit, edge_need, pushes_in, HasRoomFor, IsDueChange, HasNoChange, Reclaims, SavesBetween, AreReclaims, IsReclaimFull}
 use Rattle.bd_engine.specs.Engines.{EngineState, view_of as view_in}
 use Rattle.bd_volume.specs.declared.fault.Fault.{Fault}
 use Rattle.bd_volume.specs.declared.fault.Fault.TheVariants.{Device, Damaged, Worn, NoMemory, Full, Stopped}
 use Rattle.bd_volume.specs.Wears.{HasBegunReclaiming, IsWornToReclaim, WearsReclaiming, ShowsWornToReclaim}
 
--- after so many pushes the next change was made, which leaves less to change unless it is a push;
--- or nodes were changed, and a checkpoint was made, since too few slots were free for the change
+-- after so many pushes a change was made that was due, which leaves less to change unless it is a
+-- push; or nodes were changed, and a checkpoint was made, since too few slots were free for the
+-- change
 pub data ChangesOnce (before after : ℕ) (old new : View) : Type 0 where
   made : (change : Reclaim) → Reclaims before change old new
       → LeavesLess old.tree.nodes old.tree.table change new.tree.nodes new.tree.table
@@ -39,10 +40,11 @@ pub record ChangesAll (old new : View) : Type 0 where
   pub changes : AreReclaims pushes old new
   pub whole : HasNoChange pushes new
 
--- so many slots are free, the next change of an edge needs more, so many, and no checkpoint helps
+-- so many slots are free, the change of an edge that is due needs more, so many, and no checkpoint
+-- helps
 pub record IsEdgeFull (pushes free need : ℕ) (v : View) : Type 0 where
   pub change : Reclaim
-  pub next : IsNextChange pushes change v
+  pub next : IsDueChange pushes change v
   pub short : ¬ HasRoomFor change v
   pub free_is : free ≡ free_slots v
   pub need_is : need ≡ edge_need v
@@ -58,7 +60,7 @@ IsEdgeSaveFault (Full free need) v =
     (free ≡ free_slots v) × (need ≡ edge_need v) × CannotSave v
 IsEdgeSaveFault (Stopped call) v = ⊥
 
--- why the next change isn't made, or the checkpoint before it
+-- why no due change is made, or no checkpoint before it
 abbrev pub IsChangeFault : Fault → ℕ → View → Type 0
 IsChangeFault Device pushes v = ⊤
 IsChangeFault (Damaged block) pushes v = ⊥

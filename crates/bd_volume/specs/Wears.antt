@@ -20,7 +20,7 @@ use Rattle.bd_super.specs.Live.{IsLive}
 use Rattle.bd_super.specs.declared.superblock.Super.{Super}
 use Rattle.bd_view.specs.Views.{View, keys_of}
 use Rattle.bd_view.specs.Moves.{AreFlushedAgain, AreReplayed, CallsForSave, HasStepped}
-use Rattle.bd_view.specs.Reclaiming.{IsNextChange, HasReclaimed}
+use Rattle.bd_view.specs.Reclaiming.{IsDueChange, HasReclaimed}
 use Rattle.bd_engine.specs.Engines.{EngineState, flushed_on, IsWornIn}
 use Rattle.bd_engine.specs.Reclaiming.{MayMake, IsWornToChange}
 use Rattle.bd_engine.specs.Stored.{IsFound}
@@ -163,7 +163,7 @@ HasBegunReclaiming old new = (new ≡ old) ⊎ ((pushes : ℕ) × HasReclaimed p
 pub record IsWornForChange (which : Counter) (v : View) : Type 0 where
   pub pushes : ℕ
   pub change : Reclaim
-  pub next : IsNextChange pushes change v
+  pub next : IsDueChange pushes change v
   pub worn : IsWornChange (IsSound v.tree.nodes v.tree.table) v.tree.nodes v.tree.table change which
 
 -- which counter has no room where reclaiming goes on from a view

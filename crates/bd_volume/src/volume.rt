@@ -334,18 +334,18 @@ impl<D: Device> Volume<D> {
     }
 
     /// Gives back the nodes that nothing needs any more: makes a checkpoint; then changes of the
-    /// nodes along the edges that pending messages cut or cover, from the root down, until none is
-    /// left or 4,096 pushes were made, with checkpoints between where too few slots are free; and a
-    /// last checkpoint. What the volume stands for stays, and what stands at the keys of sound nodes
-    /// where that is no tree, also at a fault, which leaves the changes that were made. It ends in
-    /// unsound nodes too: after at most `2 * most_left + 2` changes and checkpoints up to each push,
-    /// by the nodes that are kept (`Engine::most_left`). Of the blocks before the slots it writes
-    /// those alone by which checkpoints are published.
+    /// nodes along the edges that pending messages cut or cover, or whose child has nothing for them,
+    /// until none is left or 4,096 pushes were made, with checkpoints between where too few slots are
+    /// free; and a last checkpoint. What the volume stands for stays, and what stands at the keys of
+    /// sound nodes where that is no tree, also at a fault, which leaves the changes that were made. It
+    /// ends in unsound nodes too: after at most `2 * most_left + 2` changes and checkpoints up to each
+    /// push, by the nodes that are kept (`Engine::most_left`). Of the blocks before the slots it
+    /// writes those alone by which checkpoints are published.
     ///
-    /// `Full` comes where fewer slots are free than the first or the last checkpoint needs, or than
-    /// the next change of an edge needs and no checkpoint helps, with both numbers; `Worn` where the
-    /// epoch has no room for a checkpoint, or another counter none for the next change. A failed
-    /// write or barrier stops the volume, and each later call is `Stopped`.
+    /// `Full` comes where fewer slots are free than the first or the last checkpoint needs, or than a
+    /// change of an edge needs that is due and no checkpoint helps, with both numbers; `Worn` where
+    /// the epoch has no room for a checkpoint, or another counter none for a change that is due. A
+    /// failed write or barrier stops the volume, and each later call is `Stopped`.
     pub fn reclaim(&mut self) -> Result<(), Fault>
         ensures time { (t : Tree) (n : ℕ) → StandsFor D.Device self.old t n
             → GoesBy D.Device self.old self.new t n }

@@ -13,7 +13,7 @@ use Rattle.clap.specs.Simple.{Shape, built, entered, names_of, subcommand_of}
 use Rattle.clap.specs.Faults.{defaults_fault, entered_fault, fault_of, level_fault, other_fault, step_fault, turn_fault, walk_fault, word_fault}
 use Rattle.bd_words.specs.Words.{Call, Run, Format, Fill, Check, Export, Import, Serve, call_of, is_dashes, is_flag, of_image, of_path, format_of, fill_of, slots_in, seed_in, count_in, values_in, verb_of}
 use Rattle.bd_words.specs.Line.{HasRead, line, verb_name}
-use Rattle.bd_words.proofs.Reading.{IsHelp, flag_refused, left_refused, not_long, not_short, right_refused, some_kind}
+use Rattle.bd_words.proofs.Reading.{IsHelp, flag_refused, left_refused, not_long, not_short, refused, right_refused}
 use Rattle.bd_words.proofs.Verbs.{Reads, closing, helps, image_shape, path_shape, format_shape, fill_shape, image_reads, path_reads, format_reads, fill_reads}
 
 -- the words are refused, or make this call
@@ -174,8 +174,8 @@ trailing = record (walk_from nothing_held) { is_trailing = true }
 
 after_dashes : (ws : List Text) → whole (or_else [] (walk_fault top names trailing ws)) (fold (walked top.rules names) trailing ws) ≡ [] → ⊥
 unfolding clap_on_literals
-after_dashes [] = some_kind _ _
-after_dashes (x ∷ xs) = some_kind _ _
+after_dashes [] = refused _ refl
+after_dashes (x ∷ xs) = refused _ refl
 
 -- the verb is none of a call
 record IsNoVerb (verb : Text) : Type 0 where
@@ -192,7 +192,7 @@ module _ (program verb : Text) (ws : List Text) (n : IsNoVerb verb) where
   names_help h = rw (n.run, n.format, n.fill, n.check, n.exports, n.imports, n.serve, h) refl
 
   asks_help : bytes_eq (codes "help") verb ≡ true → turn_fault top names (walk_from nothing_held) verb ≡ [] → ⊥
-  asks_help h e = some_kind _ _ (sym (turns verb (Some (codes "help")) (names_help h)) ∙ e)
+  asks_help h e = refused _ refl (sym (turns verb (Some (codes "help")) (names_help h)) ∙ e)
 
   no_verb : bytes_eq (codes "help") verb ≡ false → subcommand_met names idle verb ≡ None
   no_verb h = rw (n.run, n.format, n.fill, n.check, n.exports, n.imports, n.serve, h) refl
@@ -214,7 +214,7 @@ module _ (program verb : Text) (ws : List Text) (n : IsNoVerb verb) where
       is_value = ap (step_to verb) (no_verb h) ∙ rw (d, not_long verb flag, not_short verb flag) refl
 
       strays : (q : Held × Step) → q ≡ (nothing_held, value) → step_fault top 1 q.0 q.1 ≡ [] → ⊥
-      strays q is e = some_kind _ _ (subst (λ (q : Held × Step). step_fault top 1 q.0 q.1 ≡ []) is e)
+      strays q is e = refused _ refl (subst (λ (q : Held × Step). step_fault top 1 q.0 q.1 ≡ []) is e)
 
   no_verb_reads : AllByRecursion IsUtf8 (program ∷ verb ∷ ws) → fault_of line (program ∷ verb ∷ ws) ≡ [] → ⊥
   unfolding walk_fault
@@ -242,8 +242,8 @@ reads_verb name program verb s of ws is other same at named reads call =
 -- `clap` refuses just the words that make no call, and gives the call of others
 pub line_reads : (words : List Text) → AllByRecursion IsUtf8 words → LineReads words (call_of words)
 unfolding clap_on_literals
-line_reads [] utf8 = some_kind _ _
-line_reads (program ∷ []) utf8 = some_kind _ _
+line_reads [] utf8 = refused _ refl
+line_reads (program ∷ []) utf8 = refused _ refl
 line_reads (program ∷ verb ∷ ws) utf8 =
     go (bytes_eq (codes "run") verb) (bytes_eq (codes "format") verb) (bytes_eq (codes "fill") verb) (bytes_eq (codes "check") verb) (bytes_eq (codes "export") verb) (bytes_eq (codes "import") verb) (bytes_eq (codes "serve") verb) refl refl refl refl refl refl refl
   where

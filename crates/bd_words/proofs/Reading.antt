@@ -10,19 +10,19 @@ use Rattle.clap.specs.Kinds.{Kinds, or_else}
 use Rattle.clap.specs.Walk.{Step, after_step, value, word_met, Held, Row, Rule, Text, Walk, idle, positional, arg_by_index, arg_by_long, arg_by_short, is_multiple, is_pending, next_position, pushed, settled, settled_rows, takes_several, to_positional, walked}
 use Rattle.clap.specs.Simple.{Shape, filled, help_rule}
 use Rattle.clap.specs.Faults.{bundle_step_fault, flag_word_fault, flags_fault, long_fault, react_fault, short_fault, step_fault, turn_fault, use_fault, walk_fault, word_fault}
-use Rattle.clap.specs.declared.error.kind.ErrorKind.{ErrorKind}
 use Rattle.std.proofs.lemmas.Bool.{eqb-true}
 use Rattle.std.proofs.lemmas.Str.{encodes-chars, IsUtf8-past_char}
 use Rattle.bd_words.specs.Words.{is_dashes, is_flag, values_in}
 
 -- ---- kinds
 
-pub some_kind : (k : ErrorKind) (ks : Kinds) → k ∷ ks ≡ [] → ⊥
-some_kind k ks e = absurd (true≢false (ap is_some_kind e))
-  where
-    is_some_kind : Kinds → Bool
-    is_some_kind [] = false
-    is_some_kind (k ∷ ks) = true
+-- there is a kind
+abbrev pub is_some_kind : Kinds → Bool
+is_some_kind [] = false
+is_some_kind (k ∷ ks) = true
+
+pub refused : (ks : Kinds) → is_some_kind ks ≡ true → ks ≡ [] → ⊥
+refused ks some none = absurd (true≢false (sym some ∙ ap is_some_kind none))
 
 pub left_refused : (a b : Kinds) → (a ≡ [] → ⊥) → or_else a b ≡ [] → ⊥
 left_refused [] b h e = h refl
@@ -30,7 +30,7 @@ left_refused (k ∷ ks) b h e = h e
 
 pub right_refused : (a b : Kinds) → (b ≡ [] → ⊥) → or_else a b ≡ [] → ⊥
 right_refused [] b h e = h e
-right_refused (k ∷ ks) b h e = some_kind k ks e
+right_refused (k ∷ ks) b h e = refused (k ∷ ks) refl e
 
 -- ---- flags
 
@@ -41,15 +41,15 @@ abbrev pub IsHelp : Option Rule → Type 0
 IsHelp o = (o ≡ None) ⊎ (o ≡ Some help)
 
 react_refused : (c : List Rule) (again : Bool) (h : Held) → react_fault c again help [] h ≡ [] → ⊥
-react_refused c again h = right_refused _ (use_fault again help [] (settled c h).rows) (λ e. some_kind _ _ e)
+react_refused c again h = right_refused _ (use_fault again help [] (settled c h).rows) (refused _ refl)
 
 long_refused : (c : List Rule) (again : Bool) (o : Option Rule) (v : Option Text) (h : Held) → IsHelp o → long_fault c again o v h ≡ [] → ⊥
-long_refused c again o v h (inl none) e = some_kind _ _ (subst (λ o. long_fault c again o v h ≡ []) none e)
+long_refused c again o v h (inl none) e = refused _ refl (subst (λ o. long_fault c again o v h ≡ []) none e)
 long_refused c again o None h (inr some) e = react_refused c again h (subst (λ o. long_fault c again o None h ≡ []) some e)
-long_refused c again o (Some v) h (inr some) e = some_kind _ _ (subst (λ o. long_fault c again o (Some v) h ≡ []) some e)
+long_refused c again o (Some v) h (inr some) e = refused _ refl (subst (λ o. long_fault c again o (Some v) h ≡ []) some e)
 
 short_refused : (c : List Rule) (again : Bool) (o : Option Rule) (rest : Text) (h : Held) (next : Held → Kinds) → IsHelp o → short_fault c again o rest h next ≡ [] → ⊥
-short_refused c again o rest h next (inl none) e = some_kind _ _ (subst (λ o. short_fault c again o rest h next ≡ []) none e)
+short_refused c again o rest h next (inl none) e = refused _ refl (subst (λ o. short_fault c again o rest h next ≡ []) none e)
 short_refused c again o rest h next (inr some) e =
     left_refused (react_fault c again help [] h) _ (react_refused c again h) (subst (λ o. short_fault c again o rest h next ≡ []) some e)
 

@@ -18,7 +18,7 @@ use Rattle.bd_limits.specs.Limits.{slot_minimum, slot_limit}
 use Rattle.bd_words.specs.Words.{Call, Fill, is_number, seed_in, count_in, seed_limit, fill_limit, of_image, of_path, format_of, fill_of, values_in}
 use Rattle.bd_words.specs.Line.{HasRows, fill_line, format_line, image_line, image_row, line, path_line, path_row}
 use Rattle.bd_words.proofs.NumberWords.{number_same}
-use Rattle.bd_words.proofs.Reading.{IsHelp, NeverTrails, Follows, at, follows, help, left_refused, some_kind}
+use Rattle.bd_words.proofs.Reading.{IsHelp, NeverTrails, Follows, at, follows, help, left_refused, refused}
 
 -- ---- one level of a parse
 
@@ -100,10 +100,10 @@ image_never verb i = find_never (at_index i) (image_shape verb).rules refl
 image_ends : (verb : Text) (call : Text → Call) → ((image : Text) → HasRows (call image) (image_row image ∷ [])) → (vs : List Text)
     → Ends (image_shape verb) vs (of_image call vs)
 unfolding clap_on_literals
-image_ends verb call has [] = some_kind _ _
-image_ends verb call has ([] ∷ []) = some_kind _ _
+image_ends verb call has [] = refused _ refl
+image_ends verb call has ([] ∷ []) = refused _ refl
 image_ends verb call has ((b ∷ bs) ∷ []) = (rw (named b bs) refl, has (b ∷ bs))
-image_ends verb call has (a ∷ b ∷ vs) = some_kind _ _
+image_ends verb call has (a ∷ b ∷ vs) = refused _ refl
 
 pub image_reads : (verb : Text) (call : Text → Call) → ((image : Text) → HasRows (call image) (image_row image ∷ [])) → (ws : List Text) → AllByRecursion IsUtf8 ws
     → Reads (image_shape verb) ws (option_and_then (of_image call) (values_in ws))
@@ -126,13 +126,13 @@ path_never verb i = find_never (at_index i) (path_shape verb).rules refl
 path_ends : (verb : Text) (call : Text → Text → Call) → ((image path : Text) → HasRows (call image path) (image_row image ∷ path_row path ∷ [])) → (vs : List Text)
     → Ends (path_shape verb) vs (of_path call vs)
 unfolding clap_on_literals
-path_ends verb call has [] = some_kind _ _
-path_ends verb call has ([] ∷ []) = some_kind _ _
-path_ends verb call has ((b ∷ bs) ∷ []) = λ e. some_kind _ _ (rw (named b bs) at e)
-path_ends verb call has ([] ∷ path ∷ []) = some_kind _ _
+path_ends verb call has [] = refused _ refl
+path_ends verb call has ([] ∷ []) = refused _ refl
+path_ends verb call has ((b ∷ bs) ∷ []) = λ e. refused _ refl (rw (named b bs) at e)
+path_ends verb call has ([] ∷ path ∷ []) = refused _ refl
 path_ends verb call has ((b ∷ bs) ∷ path ∷ []) = (rw (named b bs) refl, has (b ∷ bs) path)
-path_ends verb call has ([] ∷ path ∷ c ∷ vs) = some_kind _ _
-path_ends verb call has ((b ∷ bs) ∷ path ∷ c ∷ vs) = λ e. some_kind _ _ (rw (named b bs) at e)
+path_ends verb call has ([] ∷ path ∷ c ∷ vs) = refused _ refl
+path_ends verb call has ((b ∷ bs) ∷ path ∷ c ∷ vs) = λ e. refused _ refl (rw (named b bs) at e)
 
 pub path_reads : (verb : Text) (call : Text → Text → Call) → ((image path : Text) → HasRows (call image path) (image_row image ∷ path_row path ∷ [])) → (ws : List Text)
     → AllByRecursion IsUtf8 ws → Reads (path_shape verb) ws (option_and_then (of_path call) (values_in ws))
@@ -159,17 +159,17 @@ format_both : (b : ℕ) (bs slots : Text) (t : Bool) → accepted slot_minimum s
     → Ends format_shape ((b ∷ bs) ∷ slots ∷ []) (format_of ((b ∷ bs) ∷ slots ∷ []))
 unfolding clap_on_literals
 format_both b bs slots true a n = rw n (rw (named b bs, a) refl, (slots, refl, rw n refl))
-format_both b bs slots false a n = rw n (λ e. some_kind _ _ (rw (named b bs, a) at e))
+format_both b bs slots false a n = rw n (λ e. refused _ refl (rw (named b bs, a) at e))
 
 format_ends : (vs : List Text) → Ends format_shape vs (format_of vs)
 unfolding clap_on_literals
-format_ends [] = some_kind _ _
-format_ends ([] ∷ []) = some_kind _ _
-format_ends ((b ∷ bs) ∷ []) = λ e. some_kind _ _ (rw (named b bs) at e)
-format_ends ([] ∷ slots ∷ []) = some_kind _ _
+format_ends [] = refused _ refl
+format_ends ([] ∷ []) = refused _ refl
+format_ends ((b ∷ bs) ∷ []) = λ e. refused _ refl (rw (named b bs) at e)
+format_ends ([] ∷ slots ∷ []) = refused _ refl
 format_ends ((b ∷ bs) ∷ slots ∷ []) = format_both b bs slots _ (number_same slot_minimum slot_limit slots (omega arith)) refl
-format_ends ([] ∷ slots ∷ c ∷ vs) = some_kind _ _
-format_ends ((b ∷ bs) ∷ slots ∷ c ∷ vs) = λ e. some_kind _ _ (rw (named b bs) at e)
+format_ends ([] ∷ slots ∷ c ∷ vs) = refused _ refl
+format_ends ((b ∷ bs) ∷ slots ∷ c ∷ vs) = λ e. refused _ refl (rw (named b bs) at e)
 
 pub format_reads : (ws : List Text) → AllByRecursion IsUtf8 ws → Reads format_shape ws (option_and_then format_of (values_in ws))
 format_reads = reads format_shape format_longs format_shorts format_never format_of format_ends
@@ -190,8 +190,8 @@ fill_never i = find_never (at_index i) fill_shape.rules refl
 
 fill_two : (b : ℕ) (bs seed : Text) (t : Bool) → accepted 0 seed_limit seed ≡ t → Ends fill_shape ((b ∷ bs) ∷ seed ∷ []) None
 unfolding clap_on_literals
-fill_two b bs seed true a = λ e. some_kind _ _ (rw (named b bs, a) at e)
-fill_two b bs seed false a = λ e. some_kind _ _ (rw (named b bs, a) at e)
+fill_two b bs seed true a = λ e. refused _ refl (rw (named b bs, a) at e)
+fill_two b bs seed false a = λ e. refused _ refl (rw (named b bs, a) at e)
 
 abbrev refused_if : ErrorKind → Bool → Kinds
 refused_if k passes = or_else (cond passes [] (k ∷ [])) []
@@ -215,10 +215,10 @@ fill_passes b bs seed count s n a d is_seed is_count =
     (fill_fault b bs seed count ∙ (λ i. three (named b bs i) (a i) (d i)), (seed, count, refl, is_seed, is_count))
 
 fill_seed : (b : ℕ) (bs seed count : Text) → accepted 0 seed_limit seed ≡ false → Ends fill_shape ((b ∷ bs) ∷ seed ∷ count ∷ []) None
-fill_seed b bs seed count a e = some_kind _ _ (sym (λ i. three (named b bs i) (a i) (accepted 0 fill_limit count)) ∙ (sym (fill_fault b bs seed count) ∙ e))
+fill_seed b bs seed count a e = refused _ refl (sym (λ i. three (named b bs i) (a i) (accepted 0 fill_limit count)) ∙ (sym (fill_fault b bs seed count) ∙ e))
 
 fill_count : (b : ℕ) (bs seed count : Text) → accepted 0 seed_limit seed ≡ true → accepted 0 fill_limit count ≡ false → Ends fill_shape ((b ∷ bs) ∷ seed ∷ count ∷ []) None
-fill_count b bs seed count a d e = some_kind _ _ (sym (λ i. three (named b bs i) (a i) (d i)) ∙ (sym (fill_fault b bs seed count) ∙ e))
+fill_count b bs seed count a d e = refused _ refl (sym (λ i. three (named b bs i) (a i) (d i)) ∙ (sym (fill_fault b bs seed count) ∙ e))
 
 -- the call of three values, of which the first is a name
 abbrev filling : Text → Option ℕ → Option ℕ → Option Call
@@ -243,20 +243,20 @@ fill_all b bs seed count false u n m =
 
 fill_more : (b : ℕ) (bs seed count d : Text) (vs : List Text) (t : Bool) → accepted 0 seed_limit seed ≡ t → Ends fill_shape ((b ∷ bs) ∷ seed ∷ count ∷ d ∷ vs) None
 unfolding clap_on_literals
-fill_more b bs seed count d vs true a = λ e. some_kind _ _ (rw (named b bs, a) at e)
-fill_more b bs seed count d vs false a = λ e. some_kind _ _ (rw (named b bs, a) at e)
+fill_more b bs seed count d vs true a = λ e. refused _ refl (rw (named b bs, a) at e)
+fill_more b bs seed count d vs false a = λ e. refused _ refl (rw (named b bs, a) at e)
 
 fill_ends : (vs : List Text) → Ends fill_shape vs (fill_of vs)
 unfolding clap_on_literals
-fill_ends [] = some_kind _ _
-fill_ends ([] ∷ []) = some_kind _ _
-fill_ends ((b ∷ bs) ∷ []) = λ e. some_kind _ _ (rw (named b bs) at e)
-fill_ends ([] ∷ seed ∷ []) = some_kind _ _
+fill_ends [] = refused _ refl
+fill_ends ([] ∷ []) = refused _ refl
+fill_ends ((b ∷ bs) ∷ []) = λ e. refused _ refl (rw (named b bs) at e)
+fill_ends ([] ∷ seed ∷ []) = refused _ refl
 fill_ends ((b ∷ bs) ∷ seed ∷ []) = fill_two b bs seed _ refl
-fill_ends ([] ∷ seed ∷ count ∷ []) = some_kind _ _
+fill_ends ([] ∷ seed ∷ count ∷ []) = refused _ refl
 fill_ends ((b ∷ bs) ∷ seed ∷ count ∷ []) =
     fill_all b bs seed count _ _ refl refl
-fill_ends ([] ∷ seed ∷ count ∷ d ∷ vs) = some_kind _ _
+fill_ends ([] ∷ seed ∷ count ∷ d ∷ vs) = refused _ refl
 fill_ends ((b ∷ bs) ∷ seed ∷ count ∷ d ∷ vs) = fill_more b bs seed count d vs _ refl
 
 pub fill_reads : (ws : List Text) → AllByRecursion IsUtf8 ws → Reads fill_shape ws (option_and_then fill_of (values_in ws))

@@ -10,13 +10,13 @@ ghost use Rattle.bd_words.specs.Words.{Check as CheckCall, Export as ExportCall}
 ghost use Rattle.bd_words.specs.Words.{Import as ImportCall, Serve as ServeCall};
 ghost use Rattle.bd_words.specs.Line.{AreTaken, HasRead, HasRows, fill_line, first_line};
 ghost use Rattle.bd_words.specs.Line.{format_line, image_line, image_rule, line, number_rule};
-ghost use Rattle.bd_words.specs.Line.{path_line, path_rule};
+ghost use Rattle.bd_words.specs.Line.{path_line, path_rule, with_verb};
 ghost use Rattle.bd_words.specs.Calls.{IsWithinLimits, asked};
 
 use bd_limits::{MAX_SLOTS, MIN_SLOTS};
 use clap::builder::ValueParser;
 use clap::error::ErrorKind;
-use clap::{Arg, ArgMatches, Command, Error, value_parser};
+use clap::{Arg, ArgMatches, Command, Error};
 use std::alloc::{AllocError, Global};
 
 /// The greatest number of lines of a fill.
@@ -116,7 +116,7 @@ fn number_arg<'a>(alloc: Global, id: &'a str, least: u32, most: u32) -> Arg<'a>
     ensures rule { rule_of result ≡ number_rule id.entry.now least most }
     ensures local { result.global ≡ false }
 {
-    let within = value_parser!(u32).range(i64::from(least)..=i64::from(most));
+    let within = ValueParser::Signed(i64::from(least), i64::from(most));
     Arg::new(alloc, id).required(true).value_parser(within)
 }
 
@@ -143,10 +143,9 @@ fn format_command<'a>(alloc: Global) -> Result<Command<'a>, AllocError>
     ensures line { IfOk result (λ c. app_of c ≡ format_line) }
     ensures local { IfOk result (λ c. (out-Command c).has_globals ≡ false) }
 {
-    let slots = number_arg(alloc, "slots", MIN_SLOTS, MAX_SLOTS);
     Command::new(alloc, "format")
         .arg(image_arg(alloc))?
-        .arg(slots)
+        .arg(number_arg(alloc, "slots", MIN_SLOTS, MAX_SLOTS))
 }
 
 /// `fill IMAGE SEED COUNT`.
@@ -154,34 +153,68 @@ fn fill_command<'a>(alloc: Global) -> Result<Command<'a>, AllocError>
     ensures line { IfOk result (λ c. app_of c ≡ fill_line) }
     ensures local { IfOk result (λ c. (out-Command c).has_globals ≡ false) }
 {
-    let seed = number_arg(alloc, "seed", 0, u32::MAX);
-    let count = number_arg(alloc, "count", 0, MAX_FILL);
     Command::new(alloc, "fill")
         .arg(image_arg(alloc))?
-        .arg(seed)?
-        .arg(count)
+        .arg(number_arg(alloc, "seed", 0, u32::MAX))?
+        .arg(number_arg(alloc, "count", 0, MAX_FILL))
+}
+
+/// The command line `program` with one more verb, which IMAGE follows.
+fn with_image_verb<'a>(
+    program: Command<'a>,
+    alloc: Global,
+    verb: &'a str,
+) -> Result<Command<'a>, AllocError>
+    ensures line { IfOk result (λ c.
+        app_of c ≡ with_verb (app_of program.entry) (image_line verb.entry.now)) }
+{
+    program.subcommand(image_command(alloc, verb)?)
+}
+
+/// The command line `program` with one more verb, which IMAGE and PATH follow.
+fn with_path_verb<'a>(
+    program: Command<'a>,
+    alloc: Global,
+    verb: &'a str,
+) -> Result<Command<'a>, AllocError>
+    ensures line { IfOk result (λ c.
+        app_of c ≡ with_verb (app_of program.entry) (path_line verb.entry.now)) }
+{
+    program.subcommand(path_command(alloc, verb)?)
+}
+
+/// The command line `program` with `format IMAGE SLOTS`.
+fn with_format<'a>(program: Command<'a>, alloc: Global) -> Result<Command<'a>, AllocError>
+    ensures line { IfOk result (λ c.
+        app_of c ≡ with_verb (app_of program.entry) format_line) }
+{
+    program.subcommand(format_command(alloc)?)
+}
+
+/// The command line `program` with `fill IMAGE SEED COUNT`.
+fn with_fill<'a>(program: Command<'a>, alloc: Global) -> Result<Command<'a>, AllocError>
+    ensures line { IfOk result (λ c. app_of c ≡ with_verb (app_of program.entry) fill_line) }
+{
+    program.subcommand(fill_command(alloc)?)
 }
 
 /// The program's command line with the subcommands `run`, `format` and `fill`.
 fn first_commands<'a>(alloc: Global) -> Result<Command<'a>, AllocError>
     ensures line { IfOk result (λ c. app_of c ≡ first_line) }
 {
-    Command::new(alloc, "betr")
-        .subcommand_required(true)
-        .subcommand(image_command(alloc, "run")?)?
-        .subcommand(format_command(alloc)?)?
-        .subcommand(fill_command(alloc)?)
+    let program = Command::new(alloc, "betr").subcommand_required(true);
+    let program = with_image_verb(program, alloc, "run")?;
+    with_fill(with_format(program, alloc)?, alloc)
 }
 
 /// The program's command line, with a subcommand for each call.
 fn command_line<'a>(alloc: Global) -> Result<Command<'a>, AllocError>
     ensures line { IfOk result (λ c. app_of c ≡ line) }
 {
-    first_commands(alloc)?
-        .subcommand(image_command(alloc, "check")?)?
-        .subcommand(path_command(alloc, "export")?)?
-        .subcommand(path_command(alloc, "import")?)?
-        .subcommand(image_command(alloc, "serve")?)
+    let program = with_image_verb(first_commands(alloc)?, alloc, "check")?;
+    let program = with_path_verb(program, alloc, "export")?;
+    let program = with_path_verb(program, alloc, "import")?;
+    with_image_verb(program, alloc, "serve")
 }
 
 /// The number that a parse found under `id`.

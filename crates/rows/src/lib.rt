@@ -7,6 +7,8 @@
 #[cfg(test)]
 mod command;
 #[cfg(test)]
+mod entries;
+#[cfg(test)]
 mod io;
 #[cfg(test)]
 mod keys;

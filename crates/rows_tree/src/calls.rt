@@ -21,10 +21,14 @@ pub fn run(machine: &mut Machine, words: &[&str; WORDS]) -> Result<bool, Stop> {
         "lone" => lone(machine, words)?,
         "flush" => machine.flush(number(words[1])? as usize)?,
         "limit" => machine.limit = Some(number(words[1])? as usize),
-        "reclaim" => ensure(reclaim(&mut machine.tree, false)? == 0)?,
+        "reclaim" => ensure(reclaim(machine.alloc, &mut machine.tree, false)? == 0)?,
         "pushes" => {
             let least = number(words[1])?;
-            within(reclaim(&mut machine.tree, true)?, least, u64::MAX)?;
+            within(
+                reclaim(machine.alloc, &mut machine.tree, true)?,
+                least,
+                u64::MAX,
+            )?;
         }
         _ => return Ok(false),
     }

@@ -10,6 +10,7 @@ use bd_message::{KeyMap, ListMap, Message};
 use bd_node::{Node, NodeStore};
 use bd_tree::Tree;
 use std::alloc::{AllocError, Global};
+use std::collections::HashSet;
 use std::rc::Rc;
 
 /// A map, a tree of nodes in memory and nodes over a device, after the same calls.
@@ -120,10 +121,11 @@ pub fn flush(tree: &mut Tree<MemNodes>, limit: usize) -> Result<(), Stop> {
 }
 
 /// Makes changes of reclaiming until there is none. How many of them were pushes.
-pub fn reclaim(tree: &mut Tree<MemNodes>, pushes: bool) -> Result<u64, Stop> {
+pub fn reclaim(alloc: Global, tree: &mut Tree<MemNodes>, pushes: bool) -> Result<u64, Stop> {
+    let mut passed = HashSet::new(alloc);
     let mut count = 0u64;
     for _ in 0..STEPS {
-        let Some(step) = tree.reclaim_next(pushes)? else {
+        let Some(step) = tree.reclaim_next(&mut passed, pushes)? else {
             return Ok(count);
         };
         if matches!(step, Reclaim::Push { .. }) {

@@ -3,7 +3,7 @@
 ghost use Rattle.std.specs.Prelude.{◌≡◌, ◌<◌, ◌≤◌, ◌^◌, IfOk, IfSome, MatchOption, OnOk, OnErr};
 ghost use Rattle.bd_message.specs.KeyMaps.{NeverWorn, SameAt};
 ghost use Rattle.bd_pager.specs.Pagers.{nodes_of, table_of};
-ghost use Rattle.bd_cover.specs.Walking.{IsFirst, HasNone};
+ghost use Rattle.bd_cover.specs.Walking.{IsDue, HasNone};
 ghost use Rattle.bd_cover.specs.Reclaimed.{IsReclaimed, left_over};
 ghost use Rattle.bd_reclaim.specs.Changes.{IsReclaimMade, LeavesLess};
 ghost use Rattle.bd_view.specs.Reclaiming.{edge_need, push_need};
@@ -15,9 +15,11 @@ use bd_cover::Reclaim;
 use bd_device::Device;
 use bd_limits::{MAX_BUFFER, MAX_EDGES, MAX_LEVEL};
 use bd_message::MapFault;
+use std::collections::HashSet;
 
-// How many messages the edges of a node may not have seen, in sum.
-const LEFT_IN_NODE: u128 = MAX_EDGES as u128 * MAX_BUFFER as u128;
+// How much may be left to change at a node: for each edge twice what waits in the node, and its
+// child.
+const LEFT_IN_NODE: u128 = MAX_EDGES as u128 * (2 * MAX_BUFFER as u128 + 1);
 
 // How many slots the change of an edge may need.
 const EDGE_SLOTS: u64 = 4;
@@ -26,20 +28,24 @@ const EDGE_SLOTS: u64 = 4;
 const PUSH_SLOTS: u64 = 8;
 
 impl<D: Device> Engine<D> {
-    /// The first change of reclaiming that is still to be made, and none exactly where there is
-    /// none; pushes are passed over unless `pushes` asks for them. Only the device is read, and the
-    /// view stays.
-    pub fn next_change(&mut self, pushes: bool) -> Result<Option<Reclaim>, MapFault>
-        ensures first { IsSoundOn D.Device self.old → IfOk result (λ found. MatchOption found
+    /// A change of reclaiming that is due, and none exactly where there is none; pushes are passed
+    /// over unless `pushes` asks for them. What `passed` has is a hint: where it looks first. Only the
+    /// device is read, and the view stays.
+    pub fn next_change(
+        &mut self,
+        passed: &mut HashSet<u64>,
+        pushes: bool,
+    ) -> Result<Option<Reclaim>, MapFault>
+        ensures due { IsSoundOn D.Device self.old → IfOk result (λ found. MatchOption found
             (HasNone pushes (nodes_of D.Device self.old.pager) (table_of self.old.pager)
             (table_of self.old.pager).root)
-            (λ change. IsFirst pushes (nodes_of D.Device self.old.pager)
-            (table_of self.old.pager) change (table_of self.old.pager).root)) }
+            (λ change. IsDue pushes (nodes_of D.Device self.old.pager) (table_of self.old.pager)
+            change (table_of self.old.pager).root)) }
         ensures may { IfOk result (λ found. IfSome found (MayMake D.Device self.new.pager)) }
         ensures read { IsReadOn D.Device self.old self.new }
         ensures cause { HasCause D.Device self.old.pager self.new.pager NeverWorn result }
     {
-        self.tree.map.reclaim_next(pushes)
+        self.tree.map.reclaim_next(passed, pushes)
     }
 
     /// Makes a change of reclaiming that `next_change` found in these nodes: what stands at the keys

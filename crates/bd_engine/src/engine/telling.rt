@@ -12,8 +12,14 @@ use super::Engine;
 use bd_device::Device;
 use bd_format::laws::images_are_decoded;
 use bd_shown::laws::numbers_are_shown;
+use std::alloc::Global;
 
 impl<D: Device> Engine<D> {
+    /// The allocator that it takes its memory of.
+    pub fn allocator(&self) -> Global {
+        self.alloc
+    }
+
     /// How many commands the last checkpoint counts.
     pub fn saved_count(&self) -> u64
         ensures { result ≡ self.now.live.count }

@@ -7,7 +7,7 @@ ghost use Rattle.bd_device.specs.Moments.{IsOnly};
 ghost use Rattle.bd_checkpoint.specs.Kept.{AllStandFor};
 ghost use Rattle.bd_view.specs.Views.{View, changed_count, free_slots};
 ghost use Rattle.bd_view.specs.Moves.{Saves};
-ghost use Rattle.bd_view.specs.Reclaiming.{allows_push, edge_need, pushes_in, HasRoomFor, IsNextChange, HasNoChange, AreReclaims, IsReclaim, push_limit};
+ghost use Rattle.bd_view.specs.Reclaiming.{allows_push, edge_need, pushes_in, HasRoomFor, IsDueChange, HasNoChange, AreReclaims, IsReclaim, push_limit};
 ghost use Rattle.bd_message.specs.KeyMaps.{SameAt};
 ghost use Rattle.bd_engine.specs.Engines.{keys_of, IsSoundOn, IsReadOn};
 ghost use Rattle.bd_engine.specs.Reclaiming.{MayMake};
@@ -19,6 +19,7 @@ use super::Volume;
 use crate::fault::Fault;
 use bd_cover::Reclaim;
 use bd_device::Device;
+use std::collections::HashSet;
 
 // The most pushes of one reclaiming.
 const MAX_PUSHES: u64 = 4_096;
@@ -50,7 +51,8 @@ impl<D: Device> Volume<D> {
 
     // Makes changes of reclaiming until none is left, with a checkpoint before one for which too few
     // slots are free. A fault leaves those that were made. It goes from push to push, at most 4,097
-    // times: in sound nodes none is left before.
+    // times: in sound nodes none is left before. The nodes that were passed are handed on from change
+    // to change, so that each is looked for from where the one before it was found.
     fn change_all(&mut self) -> Result<(), Fault>
         requires { stop_of self.old ≡ None }
         ensures changes { IsSoundOn D.Device self.old.engine → OnOk result
@@ -65,9 +67,10 @@ impl<D: Device> Volume<D> {
         ensures ends { Ends D.Device self.old self.new result }
         ensures count_stays { count_of self.new ≡ count_of self.old }
     {
+        let mut passed = HashSet::new(self.engine.allocator());
         let mut pushes = 0u64;
         for _push in 0..MAX_PUSHES + 1 {
-            let Some(after) = self.change_to_push(pushes)? else {
+            let Some(after) = self.change_to_push(&mut passed, pushes)? else {
                 return Ok(());
             };
             pushes = after;
@@ -79,7 +82,11 @@ impl<D: Device> Volume<D> {
     // then; or none, where no change is left. Each change but a push leaves less to change, and a
     // checkpoint comes between two of them at most once: so in sound nodes they come to an end
     // before the loop does, whose bound is that of the nodes that are kept.
-    fn change_to_push(&mut self, pushes: u64) -> Result<Option<u64>, Fault>
+    fn change_to_push(
+        &mut self,
+        passed: &mut HashSet<u64>,
+        pushes: u64,
+    ) -> Result<Option<u64>, Fault>
         requires { stop_of self.old ≡ None }
         ensures changes { IsSoundOn D.Device self.old.engine → pushes ≤ push_limit → (first : View)
             → AreReclaims pushes first (view_of D.Device self.old)
@@ -101,7 +108,7 @@ impl<D: Device> Volume<D> {
     {
         let most = 2 * self.engine.most_left() + 2;
         for _made in 0..most {
-            let Some(after) = self.change_once(pushes)? else {
+            let Some(after) = self.change_once(passed, pushes)? else {
                 return Ok(None);
             };
             if pushes < after {
@@ -111,10 +118,10 @@ impl<D: Device> Volume<D> {
         Ok(None)
     }
 
-    // After so many pushes, makes the next change, or a checkpoint where too few slots are free for
-    // it, and says how many pushes there were then; or none, where no change is left. Before that it
-    // writes changed nodes early.
-    fn change_once(&mut self, pushes: u64) -> Result<Option<u64>, Fault>
+    // After so many pushes, makes a change that is due, or a checkpoint where too few slots are free
+    // for it, and says how many pushes there were then; or none, where no change is left. Before that
+    // it writes changed nodes early.
+    fn change_once(&mut self, passed: &mut HashSet<u64>, pushes: u64) -> Result<Option<u64>, Fault>
         requires { stop_of self.old ≡ None }
         ensures changes { IsSoundOn D.Device self.old.engine → IfOk result (λ left.
             IsChangedTo pushes left (view_of D.Device self.old) (view_of D.Device self.new)) }
@@ -135,7 +142,7 @@ impl<D: Device> Volume<D> {
         ensures count_stays { count_of self.new ≡ count_of self.old }
     {
         self.spill()?;
-        let Some(change) = self.look(pushes)? else {
+        let Some(change) = self.look(passed, pushes)? else {
             return Ok(None);
         };
         if !self.has_room(&change) {
@@ -145,12 +152,12 @@ impl<D: Device> Volume<D> {
         Ok(Some(self.make(pushes, change)?))
     }
 
-    // After so many pushes, looks for the next change.
-    fn look(&mut self, pushes: u64) -> Result<Option<Reclaim>, Fault>
+    // After so many pushes, looks for a change that is due.
+    fn look(&mut self, passed: &mut HashSet<u64>, pushes: u64) -> Result<Option<Reclaim>, Fault>
         requires { stop_of self.old ≡ None }
-        ensures first { IsSoundOn D.Device self.old.engine → IfOk result (λ found.
+        ensures due { IsSoundOn D.Device self.old.engine → IfOk result (λ found.
             MatchOption found (HasNoChange pushes (view_of D.Device self.old))
-            (λ change. IsNextChange pushes change (view_of D.Device self.old))) }
+            (λ change. IsDueChange pushes change (view_of D.Device self.old))) }
         ensures fails { IsSoundOn D.Device self.old.engine → IfErr result (λ fault.
             IsChangeFault fault pushes (view_of D.Device self.new)) }
 
@@ -163,24 +170,24 @@ impl<D: Device> Volume<D> {
         ensures count_stays { count_of self.new ≡ count_of self.old }
     {
         let asked = self.allows_push(pushes);
-        let found = self.engine.next_change(asked);
+        let found = self.engine.next_change(passed, asked);
         self.engine.sound_nodes_are_undamaged();
         Ok(found?)
     }
 
-    // After so many pushes, makes the next change, for which slots are free, and says how many
+    // After so many pushes, makes a change that is due, for which slots are free, and says how many
     // pushes there were then.
     fn make(&mut self, pushes: u64, change: Reclaim) -> Result<u64, Fault>
         requires going { stop_of self.old ≡ None }
         requires may { MayMake D.Device self.old.engine.pager change }
         ensures made { IsSoundOn D.Device self.old.engine
-            → IsNextChange pushes change (view_of D.Device self.old)
+            → IsDueChange pushes change (view_of D.Device self.old)
             → HasRoomFor change (view_of D.Device self.old) → IfOk result (λ after.
             ChangesOnce pushes after (view_of D.Device self.old) (view_of D.Device self.new)) }
         ensures unmoved { IsSoundOn D.Device self.old.engine
             → OnErr result (view_of D.Device self.new ≡ view_of D.Device self.old) }
         ensures fails { IsSoundOn D.Device self.old.engine
-            → IsNextChange pushes change (view_of D.Device self.old)
+            → IsDueChange pushes change (view_of D.Device self.old)
             → IfErr result (λ fault. IsChangeFault fault pushes (view_of D.Device self.new)) }
         ensures sound { IsSoundOn D.Device self.old.engine
             → IsSoundOn D.Device self.new.engine }
@@ -245,7 +252,7 @@ impl<D: Device> Volume<D> {
     {
         match change {
             Reclaim::Shrink { .. } | Reclaim::Push { .. } => true,
-            Reclaim::Drop { .. } | Reclaim::Redirect { .. } => {
+            Reclaim::Drop { .. } | Reclaim::Redirect { .. } | Reclaim::Bare { .. } => {
                 self.engine.edge_need() <= self.engine.free()
             }
         }
@@ -258,6 +265,9 @@ fn pushes_after(pushes: u64, change: &Reclaim) -> u64
 {
     match change {
         Reclaim::Push { .. } => pushes.saturating_add(1),
-        Reclaim::Shrink { .. } | Reclaim::Drop { .. } | Reclaim::Redirect { .. } => pushes,
+        Reclaim::Shrink { .. }
+        | Reclaim::Drop { .. }
+        | Reclaim::Redirect { .. }
+        | Reclaim::Bare { .. } => pushes,
     }
 }

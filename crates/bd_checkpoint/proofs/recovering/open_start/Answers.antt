@@ -5,7 +5,7 @@ use Rattle.bd_device.specs.Moments.{Nothing}
 use Rattle.bd_device.proofs.Calls.{reads_then}
 use Rattle.bd_device.proofs.Moments.{after}
 use Rattle.bd_pager.specs.Opened.{IsBadStart}
-use Rattle.bd_checkpoint.specs.Recovering.{IsBadIn}
+use Rattle.bd_checkpoint.specs.Recovering.{IsFoundIn}
 use Rattle.bd_checkpoint.proofs.Causes.{settled_then, only_then, cause_on, bad_start}
 use Rattle.bd_checkpoint.proofs.recovering.open_start.Goals as goal
 
@@ -17,7 +17,7 @@ returns-in-Err-open-clause-cause g c =
     let live = c.in-Ok.start.0 in
     let at = c.in-Ok.start.1.items in
     let new = c.in-Err-open.refused.device in
-    cause_on D old mid new (IsBadStart (D.contents mid) live.slots at) (IsBadIn (D.contents old)) c.in-Err-open.refused.fault c.in-Ok.ensures.cause.kept
+    cause_on D old mid new (IsBadStart (D.contents mid) live.slots at) (IsFoundIn (D.contents old)) c.in-Err-open.refused.fault c.in-Ok.ensures.cause.kept
     (λ b bad.
     bad_start (D.contents old) live c.in-Ok.ensures.live b
     (subst (λ (l : List ℕ). IsBadStart (D.contents old) live.slots l b) c.in-Ok.ensures.table (subst (λ (o : Option Image). IsBadStart o live.slots at b) c.in-Ok.ensures.reads.kept bad)))

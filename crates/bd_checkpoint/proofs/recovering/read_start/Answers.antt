@@ -5,7 +5,7 @@ use Rattle.bd_device.specs.Device.{left_now}
 use Rattle.bd_device.specs.Moments.{Nothing}
 use Rattle.bd_device.proofs.Moments.{after}
 use Rattle.bd_super.specs.Live.{IsDamaged}
-use Rattle.bd_checkpoint.specs.Recovering.{IsBadIn}
+use Rattle.bd_checkpoint.specs.Recovering.{IsFoundIn}
 use Rattle.bd_checkpoint.proofs.Causes.{barrier_settles, barrier_fails, settled_then, only_then, cause_on, bad_superblock}
 use Rattle.bd_checkpoint.proofs.recovering.read_start.Goals as goal
 
@@ -21,8 +21,8 @@ returns-in_err-live-clause-cause g c =
     rw (p.1, p.2) (record {
       later = later;
       kept = tt;
-      failed = cause_on D old mid new (λ b. IfSome (D.contents mid) (λ image. IsDamaged image b)) (IsBadIn (D.contents old)) c.in_err-live.field-0.0 c.in_ok-barrier.ensures.faults
-          (λ b bad. subst (λ (o : Option Image). IsBadIn o b) c.in_ok-barrier.ensures.kept (bad_superblock (D.contents mid) b bad)) cause.failed;
+      failed = cause_on D old mid new (λ b. IfSome (D.contents mid) (λ image. IsDamaged image b)) (IsFoundIn (D.contents old)) c.in_err-live.field-0.0 c.in_ok-barrier.ensures.faults
+          (λ b bad. subst (λ (o : Option Image). IsFoundIn o b) c.in_ok-barrier.ensures.kept (bad_superblock (D.contents mid) b bad)) cause.failed;
     })
 
 pub returns-clause-only : goal.returns-clause-only

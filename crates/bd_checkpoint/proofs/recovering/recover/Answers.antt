@@ -12,8 +12,8 @@ use Rattle.bd_pager.specs.Opened.{IsOpened}
 use Rattle.bd_pager.specs.Pagers.{Paged, cache_room, is_known}
 use Rattle.bd_checkpoint.specs.Following.{HasTableOf, saved_by}
 use Rattle.bd_checkpoint.specs.Kept.{Saved, IsOpenOn}
-use Rattle.bd_checkpoint.specs.Resuming.{IsBadUnder}
-use Rattle.bd_checkpoint.specs.Recovering.{OnlySettles, HasSettled, IsBadIn, saved_of}
+use Rattle.bd_checkpoint.specs.Resuming.{IsFoundUnder}
+use Rattle.bd_checkpoint.specs.Recovering.{OnlySettles, HasSettled, IsFoundIn, saved_of}
 use Rattle.bd_checkpoint.proofs.Causes.{reads_settle, settled_then, only_then, cause_on, bad_log, no_damage}
 use Rattle.bd_checkpoint.proofs.Opened.{AreDecoded, stored_known, opened_on, known_on}
 use Rattle.bd_checkpoint.proofs.Replaying.{replays}
@@ -32,9 +32,9 @@ returns-in-Err-read_log-clause-undamaged g c = λ tree count stands block same.
     let mid = c.in-Ok.start.1.dev in
     let new = c.read_log.new.pager.dev in
     let fault = c.in-Err-read_log.fault in
-    let cause : IsImageCause D old new (IsBadIn (D.contents old)) fault =
-    cause_on D old mid new (IsBadUnder (D.contents mid) live) (IsBadIn (D.contents old)) fault c.in-Ok.ensures.faults
-    (λ b bad. bad_log (D.contents old) live c.in-Ok.ensures.live b (subst (λ (o : Option Image). IsBadUnder o live b) c.in-Ok.ensures.reads.kept bad)) c.in-Err-read_log.ensures.cause.failed in
+    let cause : IsImageCause D old new (IsFoundIn (D.contents old)) fault =
+    cause_on D old mid new (IsFoundUnder (D.contents mid) live) (IsFoundIn (D.contents old)) fault c.in-Ok.ensures.faults
+    (λ b bad. bad_log (D.contents old) live c.in-Ok.ensures.live b (subst (λ (o : Option Image). IsFoundUnder o live b) c.in-Ok.ensures.reads.kept bad)) c.in-Err-read_log.ensures.cause.failed in
     no_damage c.trees_are_undamaged.ensures D old new (D.contents old) fault cause tree count stands block same
 
 pub returns-in-Err-read_log-clause-left : goal.returns-in-Err-read_log-clause-left

@@ -7,9 +7,9 @@ pub returns : goal.returns
 returns c =
     let first = c.in_ok-arg.ensures.shape c.image_arg.ensures.local ∙ ap₂ with_rule c.new.ensures.app c.image_arg.ensures.rule in
     let first_local = c.in_ok-arg.ensures.globals ∙ ap₂ (λ a b. a || b) c.new.ensures.local c.image_arg.ensures.local in
-    let second = c.in_ok-arg-2.ensures.shape c.number_arg-seed.ensures.local ∙ ap₂ with_rule first c.number_arg-seed.ensures.rule in
-    let second_local = c.in_ok-arg-2.ensures.globals ∙ ap₂ (λ a b. a || b) first_local c.number_arg-seed.ensures.local in
+    let second = c.in_ok-arg-2.ensures.shape c.number_arg.ensures.local ∙ ap₂ with_rule first c.number_arg.ensures.rule in
+    let second_local = c.in_ok-arg-2.ensures.globals ∙ ap₂ (λ a b. a || b) first_local c.number_arg.ensures.local in
     record {
-      line = IfOk-weaker c.arg-3.result _ _ (λ r h. h.shape c.number_arg-count.ensures.local ∙ ap₂ with_rule second c.number_arg-count.ensures.rule) c.arg-3.ensures;
-      local = IfOk-weaker c.arg-3.result _ _ (λ r h. h.globals ∙ ap₂ (λ a b. a || b) second_local c.number_arg-count.ensures.local) c.arg-3.ensures;
+      line = IfOk-weaker c.arg-3.result _ _ (λ r h. h.shape c.number_arg-2.ensures.local ∙ ap₂ with_rule second c.number_arg-2.ensures.rule) c.arg-3.ensures;
+      local = IfOk-weaker c.arg-3.result _ _ (λ r h. h.globals ∙ ap₂ (λ a b. a || b) second_local c.number_arg-2.ensures.local) c.arg-3.ensures;
     }

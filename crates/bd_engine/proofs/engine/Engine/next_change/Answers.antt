@@ -3,7 +3,7 @@ use Rattle.std.proofs.Common.{refl, subst}
 use Rattle.std.specs.Prelude.{IfOk, MatchOption}
 use Rattle.bd_pager.specs.Calling.{read_keeps}
 use Rattle.bd_pager.specs.Pagers.{nodes_of, table_of}
-use Rattle.bd_cover.specs.Walking.{IsFirst, HasNone}
+use Rattle.bd_cover.specs.Walking.{IsDue, HasNone}
 use Rattle.bd_engine.specs.Engines.{EngineState, seen, IsSoundOn, IsReadOn}
 use Rattle.bd_engine.proofs.Left.{kept_standing, read_on, read_sound, read_keeps_sound}
 use Rattle.bd_engine.proofs.Reclaims.{may_make}
@@ -15,10 +15,10 @@ invariant_of-self g c =
     kept_standing g.D.Device (seen i.tree.map.store i.tree.recalled.found.keys i.log i.live i.stop i.tree.map.walk i.flushes) c.reclaim_next.new.self.store i.tree.recalled.found.keys c.reclaim_next.new.self.walk i.flushes (g.met.D.Device.since_earlier c.reclaim_next.new.self.store.dev) c.self.invariant
     (read_keeps g.D.Device i.tree.map.store c.reclaim_next.new.self.store c.reclaim_next.ensures.left.read) (read_sound g.D.Device i.tree.map.store c.reclaim_next.new.self.store c.reclaim_next.ensures.left.read)
 
-pub returns-clause-first : goal.returns-clause-first
-returns-clause-first g c =
-    subst (λ (e : EngineState g.row.D.Denot). IsSoundOn g.D.Device e → IfOk c.reclaim_next.result (λ found. MatchOption found (HasNone c.args.pushes (nodes_of g.D.Device e.pager) (table_of e.pager) (table_of e.pager).root) (λ change. IsFirst c.args.pushes (nodes_of g.D.Device e.pager) (table_of e.pager) change (table_of e.pager).root))) c.self.view_is
-    (λ s. c.reclaim_next.ensures.first s.known s.sound)
+pub returns-clause-due : goal.returns-clause-due
+returns-clause-due g c =
+    subst (λ (e : EngineState g.row.D.Denot). IsSoundOn g.D.Device e → IfOk c.reclaim_next.result (λ found. MatchOption found (HasNone c.args.pushes (nodes_of g.D.Device e.pager) (table_of e.pager) (table_of e.pager).root) (λ change. IsDue c.args.pushes (nodes_of g.D.Device e.pager) (table_of e.pager) change (table_of e.pager).root))) c.self.view_is
+    (λ s. c.reclaim_next.ensures.due s.known s.sound)
 
 pub returns-clause-may : goal.returns-clause-may
 returns-clause-may g c =

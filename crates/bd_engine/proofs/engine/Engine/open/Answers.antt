@@ -1,4 +1,4 @@
-use Rattle.std.proofs.Common.{◌≡◌, [], map, Option, IfSome, sym, ap, subst}
+use Rattle.std.proofs.Common.{◌≡◌, [], map, Option, IfSome, refl, sym, ap, subst}
 use Rattle.std.specs.Prelude.{All, IsSome}
 use Rattle.bd_device.specs.Blocks.{Image}
 use Rattle.bd_device.specs.Device.{left_now, OnlyReads}
@@ -9,7 +9,8 @@ use Rattle.bd_image.specs.Versions.{version_of}
 use Rattle.bd_checkpoint.specs.Commands.{IsPlacedIn}
 use Rattle.bd_image.specs.ImageTree.{ImageStandsFor}
 use Rattle.bd_pager.specs.Pagers.{is_known}
-use Rattle.bd_checkpoint.specs.Recovering.{HasSettled, LeadsTo}
+use Rattle.bd_checkpoint.specs.Recovering.{HasSettled, IsBadIn, IsFoundIn, LeadsTo}
+use Rattle.bd_checkpoint.proofs.Causes.{cause_on, found_is_bad}
 use Rattle.bd_checkpoint.proofs.Starting.{PartsAreOne}
 use Rattle.bd_engine.specs.Engines.{EngineState, view_of}
 use Rattle.bd_engine.specs.Stored.{IsFound, IsStoredBy, ArePlaced}
@@ -22,6 +23,12 @@ over-requires g c =
     let r = c.in-Ok.recovered in
     opened_standing g.D.Device (g.D.Device.contents c.args.dev) r.pager r.log r.live c.in-Ok.ensures.opened c.in-Ok.ensures.open c.in-Ok.ensures.idle
     c.in-Ok.ensures.reads.kept c.in-Ok.ensures.stored (λ told. c.in-Ok.ensures.known (subst (λ (o : Option Image). IsSome o) c.in-Ok.ensures.reads.kept told)) c.in-Ok.ensures.room
+
+pub returns-in-Err-clause-cause : goal.returns-in-Err-clause-cause
+returns-in-Err-clause-cause g c =
+    let D = g.D.Device in
+    let known = D.contents c.args.dev in
+    cause_on D c.args.dev c.args.dev c.in-Err.refused.device (IsFoundIn known) (IsBadIn known) c.in-Err.refused.fault refl (found_is_bad known) c.in-Err.ensures.cause
 
 pub returns-clause-known : goal.returns-clause-known
 returns-clause-known g c = λ told. subst (λ (e : EngineState g.row.D.Denot). is_known g.D.Device e.pager) (sym c.over.ensures.started) (c.in-Ok.ensures.known told)

@@ -5,7 +5,7 @@ use Rattle.std.proofs.lemmas.Bool.{false≢true}
 use Rattle.std.proofs.lemmas.Result.{err_from_is_err_and}
 use Rattle.bd_cover.specs.declared.walking.Reclaim.{Reclaim}
 use Rattle.bd_view.specs.Views.{View}
-use Rattle.bd_view.specs.Reclaiming.{IsNextChange, HasNoChange}
+use Rattle.bd_view.specs.Reclaiming.{IsDueChange, HasNoChange}
 use Rattle.bd_volume.specs.declared.fault.Fault.{Fault}
 use Rattle.bd_volume.specs.Reclaims.{ChangesOnce, IsChangedTo, IsChangeFault, ShowsEdge}
 use Rattle.bd_volume.specs.Volume.{view_of}
@@ -60,7 +60,7 @@ returns-in_default-clause-changes g c = λ s.
     let d = view_of g.D.Device c.look.new.self in
     subst (λ (v : View). IsChangedTo c.args.pushes None v d) (c.in_ok-spill.ensures.view s)
     (none_left c.args.pushes a d c.in_ok-change.ensures.read.view
-    (subst (λ (o : Option Reclaim). MatchOption o (HasNoChange c.args.pushes a) (λ change. IsNextChange c.args.pushes change a)) c.in_default.is (c.in_ok-change.ensures.first sound)))
+    (subst (λ (o : Option Reclaim). MatchOption o (HasNoChange c.args.pushes a) (λ change. IsDueChange c.args.pushes change a)) c.in_default.is (c.in_ok-change.ensures.due sound)))
 
 pub returns-in_default-clause-sound : goal.returns-in_default-clause-sound
 returns-in_default-clause-sound g c = λ s. c.in_ok-change.ensures.read.sound (c.in_ok-spill.ensures.sound s)
@@ -115,7 +115,7 @@ returns-then-not-has_room-clause-changes g c = λ s.
     let k = c.in_ok-save_for_edge.ensures in
     subst (λ (v : View). ChangesOnce c.args.pushes c.args.pushes v e) (c.in_ok-spill.ensures.view s)
     (saved_once c.args.pushes c.in-Some.change a (view_of g.D.Device c.look.new.self) e h.read.view
-    (subst (λ (o : Option Reclaim). MatchOption o (HasNoChange c.args.pushes a) (λ change. IsNextChange c.args.pushes change a)) c.in-Some.is (c.in_ok-change.ensures.first sound))
+    (subst (λ (o : Option Reclaim). MatchOption o (HasNoChange c.args.pushes a) (λ change. IsDueChange c.args.pushes change a)) c.in-Some.is (c.in_ok-change.ensures.due sound))
     (λ room. false≢true (sym c.if-not-has_room.true ∙ c.has_room.ensures.1 room))
     (k.saves (h.read.sound sound)) k.some)
 
@@ -145,8 +145,8 @@ returns-in_err-make-clause-fails g c = λ s.
     let a = view_of g.D.Device c.spill.new.self in
     let h = c.in_ok-change.ensures in
     rw (p.1, p.2) (c.in_err-make.ensures.fails (h.read.sound sound)
-    (subst (λ (v : View). IsNextChange c.args.pushes c.in-Some.change v) (sym h.read.view)
-    (subst (λ (o : Option Reclaim). MatchOption o (HasNoChange c.args.pushes a) (λ change. IsNextChange c.args.pushes change a)) c.in-Some.is (c.in_ok-change.ensures.first sound))))
+    (subst (λ (v : View). IsDueChange c.args.pushes c.in-Some.change v) (sym h.read.view)
+    (subst (λ (o : Option Reclaim). MatchOption o (HasNoChange c.args.pushes a) (λ change. IsDueChange c.args.pushes change a)) c.in-Some.is (c.in_ok-change.ensures.due sound))))
 
 pub returns-in_err-make-clause-unmoved : goal.returns-in_err-make-clause-unmoved
 returns-in_err-make-clause-unmoved g c = λ s.
@@ -178,8 +178,8 @@ returns-clause-changes g c = λ s.
     let h = c.in_ok-change.ensures in
     subst (λ (v : View). ChangesOnce c.args.pushes c.in_ok-make.field-0 v (view_of g.D.Device c.make.new.self)) (h.read.view ∙ c.in_ok-spill.ensures.view s)
     (c.in_ok-make.ensures.made (h.read.sound sound)
-    (subst (λ (v : View). IsNextChange c.args.pushes c.in-Some.change v) (sym h.read.view)
-    (subst (λ (o : Option Reclaim). MatchOption o (HasNoChange c.args.pushes a) (λ change. IsNextChange c.args.pushes change a)) c.in-Some.is (c.in_ok-change.ensures.first sound)))
+    (subst (λ (v : View). IsDueChange c.args.pushes c.in-Some.change v) (sym h.read.view)
+    (subst (λ (o : Option Reclaim). MatchOption o (HasNoChange c.args.pushes a) (λ change. IsDueChange c.args.pushes change a)) c.in-Some.is (c.in_ok-change.ensures.due sound)))
     (c.has_room.ensures.0 c.if-not-has_room.false))
 
 pub returns-clause-sound : goal.returns-clause-sound

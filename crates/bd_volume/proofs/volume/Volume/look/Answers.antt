@@ -4,7 +4,7 @@ use Rattle.std.specs.Prelude.{MatchOption}
 use Rattle.std.proofs.lemmas.Result.{err_from_is_err_and}
 use Rattle.bd_message.specs.KeyMaps.{NeverWorn}
 use Rattle.bd_pager.specs.Pagers.{is_bad}
-use Rattle.bd_cover.specs.Walking.{IsFirst, HasNone}
+use Rattle.bd_cover.specs.Walking.{IsDue, HasNone}
 use Rattle.bd_engine.specs.Engines.{EngineState}
 use Rattle.bd_volume.specs.Volume.{view_of}
 use Rattle.bd_volume.proofs.Called.{read_fails}
@@ -26,10 +26,10 @@ returns-in_err-found-clause-ends g c =
     rw (p.1, p.2) (read_fails g.D.Device c.args.self.now (record { engine = c.next_change-found.new.self; count = c.args.self.now.count }) NeverWorn c.in_err-found.field-0.0
     c.requires (ap (λ (e : EngineState g.row.D.Denot). e.stop) h.read.rest) h.read.read.device h.cause (writes_read g.D.Device c.args.self.now.engine c.next_change-found.new.self h.read))
 
-pub returns-clause-first : goal.returns-clause-first
-returns-clause-first g c = λ s.
+pub returns-clause-due : goal.returns-clause-due
+returns-clause-due g c = λ s.
     let v = view_of g.D.Device c.args.self.now in
-    subst (λ (b : Bool). MatchOption c.in_ok-found.field-0 (HasNone b v.tree.nodes v.tree.table v.tree.table.root) (λ change. IsFirst b v.tree.nodes v.tree.table change v.tree.table.root)) c.allows_push-asked.ensures (c.in_ok-found.ensures.first s)
+    subst (λ (b : Bool). MatchOption c.in_ok-found.field-0 (HasNone b v.tree.nodes v.tree.table v.tree.table.root) (λ change. IsDue b v.tree.nodes v.tree.table change v.tree.table.root)) c.allows_push-asked.ensures (c.in_ok-found.ensures.due s)
 
 pub returns-in_err-found-clause-shows : goal.returns-in_err-found-clause-shows
 returns-in_err-found-clause-shows g c =
