@@ -275,19 +275,19 @@ def roomy_fills(rows, report, folder):
 
 
 def full_fills(rows, report, folder):
-    """A fill of 5,000 lines more, of which some have no room, tells the same on two new images of 512 slots: 5,008
+    """A fill of 5,000 lines more, of which some have no room, tells the same on two new images of 256 slots: 5,008
     lines, and the kinds of the answers of a run of these lines, which are right beside the plain map. Slow programs
     make 200."""
     count = 200 if rows.is_slow else 5000
     lines, tree = lines_of_fills(count), Tree()
-    image = new_image(rows, folder, "lines", 512)
+    image = new_image(rows, folder, "lines", 256)
     script = "".join(line + "\n" for line in lines)
     run = subprocess.run([rows.betr, "run", image], input=script, stdout=subprocess.PIPE, text=True, check=False)
     answers = run.stdout.splitlines()
     are_right = len(answers) == 8 + count and all(is_answered(tree, *pair) for pair in zip(lines, answers))
     report(run.returncode == 0 and are_right, f"the lines of a fill: {len(answers)} answers")
     want = kinds_of(answers)
-    first, second = (filled(rows, folder, name, 512, count) for name in ("first", "second"))
+    first, second = (filled(rows, folder, name, 256, count) for name in ("first", "second"))
     is_told = first == second == want and sum(want[1:]) == 8 + count and (rows.is_slow or want[3] > 0)
     report(is_told, f"fills: {first}, {second}, and not {want}")
 

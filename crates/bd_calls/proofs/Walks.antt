@@ -4,11 +4,10 @@ use Rattle.std.specs.Prelude.{◌&&◌, MatchBool}
 use Rattle.std.specs.declared.option.Option.{Option}
 use Rattle.std.specs.declared.result.Result.{Result}
 use Rattle.std.specs.declared.result.Result.TheVariants.{Ok, Err}
-use Rattle.bd_command.specs.Command.{is_done}
+use Rattle.bd_command.specs.Command.{writes, is_done}
 use Rattle.bd_command.specs.declared.Command.{Command}
 use Rattle.bd_command.specs.declared.Command.TheVariants.{Mkdir, Create, Write, Truncate, Remove, Rename, Clone, Chmod, Read, Stat, List as Ls}
 use Rattle.bd_command.specs.declared.reply.Reply.{Reply}
-use Rattle.bd_message.specs.declared.message.Message.{Message}
 use Rattle.bd_model.specs.Tree.{Path, Tree}
 use Rattle.bd_model.specs.Step.{step}
 use Rattle.bd_script.specs.Lines.{LineMeaning}
@@ -30,53 +29,73 @@ use Rattle.bd_sessions.specs.declared.replies.TurnReply.{TurnReply}
 use Rattle.bd_sessions.specs.declared.replies.TurnReply.TheVariants as turn_reply
 use Rattle.bd_sessions.specs.declared.turn.Turn.{Turn}
 use Rattle.bd_sessions.specs.declared.turn.Turn.TheVariants as turn
-use Rattle.bd_view.specs.Trees.{HasAppended}
-use Rattle.bd_view.specs.Views.{View}
-use Rattle.bd_view.specs.Moves.{Saves, IsExecuted, IsAccepted, logged}
+use Rattle.bd_dirs.specs.Sendings.{Sending, Nothing, Batch, Move, sending}
+use Rattle.bd_graft.specs.declared.grafting.Walk.{Walk as WalkTaken}
+use Rattle.bd_message.specs.KeyMaps.{At as MapAt}
+use Rattle.bd_view.specs.Trees.{TreeView, HasSent}
+use Rattle.bd_view.specs.Views.{View, keys_of}
+use Rattle.bd_view.specs.Moves.{Saves, IsExecuted, IsAccepted}
 use Rattle.bd_view.specs.Reclaiming.{IsReclaim}
 use Rattle.bd_view.specs.Reclaiming.IsReclaimFull.{first, edge, last}
 use Rattle.bd_view.proofs.Standing.{steps_walk, reclaims_walk}
-use Rattle.bd_shell.specs.Transcript.{State, Entry, Answers, Serves, FillsCheckpoint, FillsReclaim, Follows, Moves, IsTranscript, doing, grafts, is_grafted, is_grafted_line, is_made, passes, IsCheap, AreCheap}
+use Rattle.bd_shell.specs.Transcript.{State, Entry, Answers, Serves, FillsCheckpoint, FillsReclaim, Follows, Moves, IsTranscript, doing, is_graft, grafts, is_grafted, is_grafted_line, is_made, passes, IsCheap, AreCheap}
 
--- what is sent after steps keeps the walk, and so does what isn't accepted
-appended_keeps : (b : Bool) (t : Tree) (c : Command) (list : List Message) (old new : View)
-    → ((sent : View) (m : IsExecuted t c old sent) → HasAppended list m.mid.tree sent.tree)
-    → MatchBool b (IsAccepted t c old new) (new ≡ old) → new.tree.walk ≡ old.tree.walk
-appended_keeps true t c list old new sent h =
+-- what is sent is a graft with few visits, or keeps the walk
+sent_cheap : (what : Sending) (mid new : TreeView) → HasSent what mid new → MatchBool (is_graft what) (new.walk.visits ≤ 5 * new.walk.height + 2) (new.walk ≡ mid.walk)
+sent_cheap Nothing mid new h = absurd h
+sent_cheap (Batch list) mid new h = h.walk_is
+sent_cheap (Move s d keep) mid new h = h.walked.few_visits
+
+kept_since : (b : Bool) (few : Type 0) (a m n : WalkTaken) → MatchBool b few (n ≡ m) → m ≡ a → MatchBool b few (n ≡ a)
+kept_since true few a m n h same = h
+kept_since false few a m n h same = h ∙ same
+
+-- so is what is sent after steps, whose record waits
+accepted_cheap : (t : Tree) (c : Command) (old new : View) → IsAccepted t c old new
+    → MatchBool (is_graft (sending (keys_of old) t c)) (new.tree.walk.visits ≤ 5 * new.tree.walk.height + 2) (new.tree.walk ≡ old.tree.walk)
+accepted_cheap t c old new h =
     let x : IsExecuted t c old h.last = h.executed in
-    ap (λ (v : View). v.tree.walk) h.after ∙ (sent h.last x).walk_is ∙ steps_walk c x.stepped.made old x.mid x.stepped.steps
-appended_keeps false t c list old new sent h = ap (λ (v : View). v.tree.walk) h
-
-grafted_is : (b : Bool) (P Q R S : Type 0) → (P → Q) → (R → S) → MatchBool b P R → MatchBool b Q S
-grafted_is true P Q R S f g h = f h
-grafted_is false P Q R S f g h = g h
+    subst (λ (v : View). MatchBool (is_graft (sending (keys_of old) t c)) (v.tree.walk.visits ≤ 5 * v.tree.walk.height + 2) (v.tree.walk ≡ old.tree.walk)) (sym h.after)
+    (kept_since (is_graft (sending (keys_of old) t c)) (h.last.tree.walk.visits ≤ 5 * h.last.tree.walk.height + 2) old.tree.walk x.mid.tree.walk h.last.tree.walk
+    (sent_cheap (sending (keys_of old) t c) x.mid.tree h.last.tree x.sent) (steps_walk c x.stepped.made old x.mid x.stepped.steps))
 
 walk_of : (old new : View) → new ≡ old → new.tree.walk ≡ old.tree.walk
 walk_of old new h = ap (λ (v : View). v.tree.walk) h
 
--- a record that waits keeps the walk
-few_as : (c : Command) (mid new : View) → new ≡ logged c mid → mid.tree.walk.visits ≤ 5 * mid.tree.walk.height + 2
-    → new.tree.walk.visits ≤ 5 * new.tree.walk.height + 2
-few_as c mid new after few = subst (λ (v : View). v.tree.walk.visits ≤ 5 * v.tree.walk.height + 2) (sym after) few
+-- no command that reads is a graft
+graft_writes : (at : MapAt) (t : Tree) (c : Command) → is_graft (sending at t c) ≡ true → writes c ≡ true
+graft_writes at t (Mkdir path) h = refl
+graft_writes at t (Create path) h = refl
+graft_writes at t (Write path off bytes) h = refl
+graft_writes at t (Truncate path len) h = refl
+graft_writes at t (Remove path) h = refl
+graft_writes at t (Rename a b) h = refl
+graft_writes at t (Clone a b) h = refl
+graft_writes at t (Chmod path mode) h = refl
+graft_writes at t (Read path off len) h = cc
+graft_writes at t (Stat path) h = cc
+graft_writes at t (Ls path after) h = cc
+
+-- where it was accepted, or nothing was done
+either_way : (graft writing done : Bool) (accepted stays few same : Type 0) → (accepted → MatchBool graft few same) → (stays → same) → (graft ≡ true → writing ≡ true)
+    → MatchBool (writing && done) accepted stays → MatchBool (graft && done) few same
+either_way true true true accepted stays few same f g w h = f h
+either_way false true true accepted stays few same f g w h = f h
+either_way true true false accepted stays few same f g w h = g h
+either_way false true false accepted stays few same f g w h = g h
+either_way true false done accepted stays few same f g w h = absurd (let no : false ≡ true = w refl in cc)
+either_way false false done accepted stays few same f g w h = g h
 
 run_cheap : (t : Tree) (c : Command) (r : Reply) (old new : View) → Moves t c r old new
-    → MatchBool (grafts c && is_done r) (new.tree.walk.visits ≤ 5 * new.tree.walk.height + 2) (new.tree.walk ≡ old.tree.walk)
-run_cheap t (Mkdir path) r old new h = appended_keeps (is_done r) t (Mkdir path) _ old new (λ v m. m.sent) h
-run_cheap t (Create path) r old new h = appended_keeps (is_done r) t (Create path) _ old new (λ v m. m.sent) h
-run_cheap t (Write path off bytes) r old new h = appended_keeps (is_done r) t (Write path off bytes) _ old new (λ v m. m.sent) h
-run_cheap t (Truncate path len) r old new h = appended_keeps (is_done r) t (Truncate path len) _ old new (λ v m. m.sent) h
-run_cheap t (Remove path) r old new h = appended_keeps (is_done r) t (Remove path) _ old new (λ v m. m.sent) h
-run_cheap t (Rename a b) r old new h = grafted_is (is_done r) (IsAccepted t (Rename a b) old new) _ (new ≡ old) _ (λ m. few_as (Rename a b) m.last new m.after m.executed.sent.walked.few_visits) (walk_of old new) h
-run_cheap t (Clone a b) r old new h = grafted_is (is_done r) (IsAccepted t (Clone a b) old new) _ (new ≡ old) _ (λ m. few_as (Clone a b) m.last new m.after m.executed.sent.walked.few_visits) (walk_of old new) h
-run_cheap t (Chmod path mode) r old new h = appended_keeps (is_done r) t (Chmod path mode) _ old new (λ v m. m.sent) h
-run_cheap t (Read path off len) r old new h = walk_of old new h
-run_cheap t (Stat path) r old new h = walk_of old new h
-run_cheap t (Ls path after) r old new h = walk_of old new h
+    → MatchBool (is_graft (sending (keys_of old) t c) && is_done r) (new.tree.walk.visits ≤ 5 * new.tree.walk.height + 2) (new.tree.walk ≡ old.tree.walk)
+run_cheap t c r old new h =
+    either_way (is_graft (sending (keys_of old) t c)) (writes c) (is_done r) (IsAccepted t c old new) (new ≡ old) (new.tree.walk.visits ≤ 5 * new.tree.walk.height + 2) (new.tree.walk ≡ old.tree.walk)
+    (accepted_cheap t c old new) (walk_of old new) (graft_writes (keys_of old) t c) h
 
 answers_cheap : (s : State) (c : Command) (said : LineReply) (after : State) → Answers s c said after
-    → MatchBool (is_made c said) (after.view.tree.walk.visits ≤ 5 * after.view.tree.walk.height + 2) (after.view.tree.walk ≡ s.view.tree.walk)
+    → MatchBool (is_made s c said) (after.view.tree.walk.visits ≤ 5 * after.view.tree.walk.height + 2) (after.view.tree.walk ≡ s.view.tree.walk)
 answers_cheap s c (reply.Command r) after h =
-    subst (λ r. MatchBool (grafts c && is_done r) (after.view.tree.walk.visits ≤ 5 * after.view.tree.walk.height + 2) (after.view.tree.walk ≡ s.view.tree.walk))
+    subst (λ r. MatchBool (grafts s c && is_done r) (after.view.tree.walk.visits ≤ 5 * after.view.tree.walk.height + 2) (after.view.tree.walk ≡ s.view.tree.walk))
     (sym h.said_is) (run_cheap s.tree c (step s.tree c).1 s.view after.view h.moved)
 answers_cheap s c (reply.Unread refusal) after h = absurd h
 answers_cheap s c (reply.Walk visits height) after h = absurd h
@@ -111,10 +130,10 @@ full_reclaim_keeps free need v w (edge pushes change _ h next short free_is need
 full_reclaim_keeps free need v w (last pushes _ h whole full) = reclaims_walk pushes v w h
 
 -- what a line of a script costs
-abbrev IsCheapLine : LineMeaning → LineReply → View → View → Type 0
-IsCheapLine line said old new = MatchBool (is_grafted_line line said) (new.tree.walk.visits ≤ 5 * new.tree.walk.height + 2) (new.tree.walk ≡ old.tree.walk)
+abbrev IsCheapLine : State → LineMeaning → LineReply → View → Type 0
+IsCheapLine s line said new = MatchBool (is_grafted_line s line said) (new.tree.walk.visits ≤ 5 * new.tree.walk.height + 2) (new.tree.walk ≡ s.view.tree.walk)
 
-cheap_line : (s : State) (l : LineMeaning) (said : LineReply) (after : State) → Follows s l said after → IsCheapLine l said s.view after.view
+cheap_line : (s : State) (l : LineMeaning) (said : LineReply) (after : State) → Follows s l said after → IsCheapLine s l said after.view
 cheap_line s (Ok (Run c)) said after h = answers_cheap s c said after h
 cheap_line s (Ok Walk) said after h = ap (λ (t : State). t.view.tree.walk) h.1
 cheap_line s (Ok Df) said after h = ap (λ (t : State). t.view.tree.walk) h.1
@@ -126,28 +145,28 @@ cheap_line s (Err refusal) said after h = ap (λ (t : State). t.view.tree.walk) 
 
 -- ---- commands for handles
 
--- what is no clone or rename keeps the walk, whatever its reply is
-never_made : (c : Command) (said : LineReply) → grafts c ≡ false → is_made c said ≡ false
-never_made c (reply.Command r) never = ap (λ b. b && is_done r) never
-never_made c (reply.Unread refusal) never = refl
-never_made c (reply.Walk visits height) never = refl
-never_made c reply.Done never = refl
-never_made c (reply.Free free slots) never = refl
-never_made c (reply.Full free need) never = refl
-never_made c reply.Stopped never = refl
+-- what comes to no graft keeps the walk, whatever its reply is
+never_made : (s : State) (c : Command) (said : LineReply) → grafts s c ≡ false → is_made s c said ≡ false
+never_made s c (reply.Command r) never = ap (λ b. b && is_done r) never
+never_made s c (reply.Unread refusal) never = refl
+never_made s c (reply.Walk visits height) never = refl
+never_made s c reply.Done never = refl
+never_made s c (reply.Free free slots) never = refl
+never_made s c (reply.Full free need) never = refl
+never_made s c reply.Stopped never = refl
 
 module _ (s : State) (client : ℕ) (t : Turn) (said : TurnReply) (after : State) where
   -- such a command, or none
-  keeps_walk : (c : Command) → grafts c ≡ false → DoesAsk doing s client t (ask.Do c) said after → after.view.tree.walk ≡ s.view.tree.walk
+  keeps_walk : (c : Command) → grafts s c ≡ false → DoesAsk doing s client t (ask.Do c) said after → after.view.tree.walk ≡ s.view.tree.walk
   keeps_walk c never h =
       ap (λ (u : State). u.view.tree.walk) h.keeps
-      ∙ subst (λ b. MatchBool b (h.middle.view.tree.walk.visits ≤ 5 * h.middle.view.tree.walk.height + 2) (h.middle.view.tree.walk ≡ s.view.tree.walk)) (never_made c h.line never)
+      ∙ subst (λ b. MatchBool b (h.middle.view.tree.walk.visits ≤ 5 * h.middle.view.tree.walk.height + 2) (h.middle.view.tree.walk ≡ s.view.tree.walk)) (never_made s c h.line never)
       (answers_cheap s c h.line h.middle h.answered)
 
   keeps_denied : (d : Denial) → DoesAsk doing s client t (ask.No d) said after → after.view.tree.walk ≡ s.view.tree.walk
   keeps_denied d h = ap (λ (u : State). u.view.tree.walk) h.1
 
-  keeps_handle : (at : Path → Command) → ((p : Path) → grafts (at p) ≡ false) → (r : Result Path Denial) → DoesAsk doing s client t (ask_at at r) said after
+  keeps_handle : (at : Path → Command) → ((p : Path) → grafts s (at p) ≡ false) → (r : Result Path Denial) → DoesAsk doing s client t (ask_at at r) said after
       → after.view.tree.walk ≡ s.view.tree.walk
   keeps_handle at never (Ok path) g = keeps_walk (at path) (never path) g
   keeps_handle at never (Err denial) g = keeps_denied denial g
@@ -162,24 +181,24 @@ module _ (s : State) (client : ℕ) (t : Turn) (said : TurnReply) (after : State
 module _ (s : State) (client : Option ℕ) (said : TurnReply) (after : State) where
   -- the turn of a line of a script
   cheap_plain : (l : Line) (r : LineReply) (middle : State) → said ≡ turn_reply.Line r → after.view ≡ middle.view → Follows s (Ok l) r middle
-      → IsCheap (record { client = client; turn = Ok (turn.Plain l) }) said s.view.tree.walk after.view.tree.walk
+      → IsCheap s (record { client = client; turn = Ok (turn.Plain l) }) said after.view.tree.walk
   cheap_plain l r middle says same h =
-      subst (λ u. IsCheap (record { client = client; turn = Ok (turn.Plain l) }) u s.view.tree.walk after.view.tree.walk) (sym says)
-      (subst (λ w. IsCheapLine (Ok l) r s.view w) (sym same) (cheap_line s (Ok l) r middle h))
+      subst (λ u. IsCheap s (record { client = client; turn = Ok (turn.Plain l) }) u after.view.tree.walk) (sym says)
+      (subst (λ w. IsCheapLine s (Ok l) r w) (sym same) (cheap_line s (Ok l) r middle h))
 
   -- any other turn, which keeps the walk
-  cheap_kept : (t : TurnMeaning) → ((r : LineReply) → passes (λ l. is_grafted_line l r) t ≡ false) → after.view.tree.walk ≡ s.view.tree.walk
-      → IsCheap (record { client = client; turn = t }) said s.view.tree.walk after.view.tree.walk
+  cheap_kept : (t : TurnMeaning) → ((r : LineReply) → passes (λ l. is_grafted_line s l r) t ≡ false) → after.view.tree.walk ≡ s.view.tree.walk
+      → IsCheap s (record { client = client; turn = t }) said after.view.tree.walk
   cheap_kept t never same = subst (λ b. MatchBool b (after.view.tree.walk.visits ≤ 5 * after.view.tree.walk.height + 2) (after.view.tree.walk ≡ s.view.tree.walk)) (sym (none said)) same
     where
-      none : (u : TurnReply) → is_grafted (record { client = client; turn = t }) u ≡ false
+      none : (u : TurnReply) → is_grafted s (record { client = client; turn = t }) u ≡ false
       none (turn_reply.Line r) = never r
       none (turn_reply.Opened number) = refl
       none turn_reply.Closed = refl
       none (turn_reply.No denial) = refl
 
   cheap_turn : (t : TurnMeaning) → DoesTurn doing s (client_or_none client) t said after
-      → IsCheap (record { client = client; turn = t }) said s.view.tree.walk after.view.tree.walk
+      → IsCheap s (record { client = client; turn = t }) said after.view.tree.walk
   cheap_turn (Ok (turn.Plain (Run c))) h = cheap_plain (Run c) h.line h.middle h.says (ap (λ (u : State). u.view) h.keeps) h.answered
   cheap_turn (Ok (turn.Plain Walk)) h = cheap_plain Walk h.line after h.says refl h.served
   cheap_turn (Ok (turn.Plain Df)) h = cheap_plain Df h.line after h.says refl h.served

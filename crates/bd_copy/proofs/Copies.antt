@@ -111,7 +111,7 @@ copy_change t p n place e child copy h s into =
 
 -- ---- of sound nodes
 
-meaning_then : (nodes : Nodes) (t : Table) (p : ℕ) (n : Node) (place : ℕ) (e : Edge) (child : ℕ) (copy h : Node) → IsForCopy t p n place e child copy → IsRedirected n place e t.next h → IsCopyFor nodes e copy
+meaning_then : (nodes : Nodes) (t : Table) (p : ℕ) (n : Node) (place : ℕ) (e : Edge) (child : ℕ) (copy h : Node) → IsForCopy t p n place e child copy → IsRedirected n place e t.next h → IsCopyFor nodes e (end_at n place) copy
     → (k : List ℕ) → IsKey k → node_at (has_made nodes t.next (copy ∷ [])) h k ≡ node_at (at nodes) n k
 meaning_then nodes t p n place e child copy h s into copied k key =
     let has = has_made nodes t.next (copy ∷ []) in
@@ -123,14 +123,14 @@ meaning_then nodes t p n place e child copy h s into copied k key =
     let x : List ℕ = drop e.lift l in
     first_made nodes t.next copy x
     ∙ node_has-key (at nodes) copy x (IsKey-drop e.lift l key_l)
-    ∙ copied child s.child_is x (IsKey-drop e.lift l key_l)
+    ∙ copied child s.child_is l key_l range
     ∙ sym (ap (λ (o : Option ℕ). child_at (at nodes) o (e.source ++ x)) s.child_is))
     (each_named (Agree has (at nodes)) (names (exchanged n place [])) (λ x one.
     let named : 1 ≤ times n x = omega (arith, times_without n place e x s.own.shape s.here) in
     made_old nodes t.next (copy ∷ []) x (s.table.below x (named_has (IsLower t (t.level p)) x (names n) s.own.lower named).kept)))
     k key
 
-pub copy_change_of : (nodes : Nodes) (t : Table) (p : ℕ) (n : Node) (place : ℕ) (e : Edge) (child : ℕ) (copy h : Node) → IsForCopy t p n place e child copy → IsRedirected n place e t.next h → IsSound nodes t → IsPrivate nodes t p → nodes p ≡ Some n → IsCopyFor nodes e copy
+pub copy_change_of : (nodes : Nodes) (t : Table) (p : ℕ) (n : Node) (place : ℕ) (e : Edge) (child : ℕ) (copy h : Node) → IsForCopy t p n place e child copy → IsRedirected n place e t.next h → IsSound nodes t → IsPrivate nodes t p → nodes p ≡ Some n → IsCopyFor nodes e (end_at n place) copy
     → IsOneChangeOf nodes t p n h (copy ∷ [])
 copy_change_of nodes t p n place e child copy h s into sound private there copied = record {
   step = copy_change t p n place e child copy h s into;

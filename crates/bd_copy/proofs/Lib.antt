@@ -1,3 +1,4 @@
 pub mod Copies
+pub mod Narrowed
 pub mod Shortened
 pub mod Copied

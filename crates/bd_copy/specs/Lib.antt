@@ -1,3 +1,4 @@
 pub mod Copying
+pub mod Narrowing
 pub mod Shortening
 pub mod Privatising

@@ -1,6 +1,8 @@
 pub mod News
 pub mod Makes
+pub mod Smalls
 pub mod NewPlans
+pub mod Along
 pub mod ChildOrder
 pub mod Listings
 pub mod Children

@@ -1,16 +1,18 @@
 -- What is planned for a command.
-use Rattle.std.specs.Prelude.{◌≡◌, ◌≤◌, Bool, false, List, ℕ, [], length, Some, None, ⊤}
+use Rattle.std.specs.Prelude.{◌≡◌, ◌≤◌, Bool, true, false, ◌&&◌, List, ℕ, [], length, Option, Some, None, ⊤}
 use Rattle.bd_limits.specs.Limits.{key_limit, write_limit}
 use Rattle.bd_keys.specs.Keys.{Begins}
 use Rattle.bd_command.specs.declared.Command.{Command}
 use Rattle.bd_command.specs.declared.Command.TheVariants.{Mkdir, Create, Write, Truncate, Remove, Rename, Clone, Chmod, Read, Stat, List as Ls}
-use Rattle.std.specs.FinMap.{insert}
+use Rattle.std.specs.FinMap.{get, insert}
 use Rattle.bd_model.specs.Tree.{Entry, Tree}
 use Rattle.bd_model.specs.Step.{refusal_of, changed, new_refusal, file_bytes}
 use Rattle.bd_records.specs.declared.Record.{Record}
 use Rattle.bd_message.specs.KeyMaps.{At, IsGrafted}
 use Rattle.bd_represent.specs.Represents.{record_of, Represents}
 use Rattle.bd_represent.specs.Plans.{IsSmallBatch, Makes}
+use Rattle.bd_files.specs.Smalls.{is_small, has_little, IsSmallAt}
+use Rattle.bd_files.specs.declared.small.SmallFile.{SmallFile}
 use Rattle.bd_dirs.specs.Kinds.{Kind, Reads, Sends, SendsLate, Grafts, kind_of}
 use Rattle.bd_dirs.specs.Sendings.{Batch, Move, made, sending}
 use Rattle.bd_dirs.specs.declared.plan.Plan.{Plan}
@@ -56,10 +58,10 @@ SendsMessages (Refused refusal) = ⊤
 SendsMessages (Apply list) = ⊤
 SendsMessages (Graft s d keep) = ⊥
 
--- a refusal, or this graft
+-- a refusal, messages, or this graft
 abbrev pub IsGraftPlan : List ℕ → List ℕ → Bool → Plan → Type 0
 IsGraftPlan s d keep (Refused refusal) = ⊤
-IsGraftPlan s d keep (Apply list) = ⊥
+IsGraftPlan s d keep (Apply list) = ⊤
 IsGraftPlan s d keep (Graft s2 d2 keep2) = (s2 ≡ s) × (d2 ≡ d) × (keep2 ≡ keep)
 
 -- what commands that read, send or graft may have planned
@@ -69,9 +71,17 @@ IsPlanOf Sends plan = SendsMessages plan
 IsPlanOf SendsLate plan = SendsMessages plan
 IsPlanOf (Grafts s d keep) plan = IsGraftPlan s d keep plan
 
--- a rename and a clone are grafts of their paths' keys, and each other command sends messages
+-- a rename and a clone send messages or are grafts of their paths' keys, and each other command
+-- sends messages
 abbrev pub IsPlanKind : Command → Plan → Type 0
 IsPlanKind c plan = IsPlanOf (kind_of c) plan
+
+-- the file at `a` and the block that is stored of it, where it and what is at `b` have at most one
+-- block each
+abbrev pub IsCarriedAt : At → Tree → List (List ℕ) → List (List ℕ) → Option SmallFile → Type 0
+IsCarriedAt at t a b None = (is_small (get t a) && has_little (get t b)) ≡ false
+IsCarriedAt at t a b (Some file) =
+    IsSmallAt at a (get t a) (Some file) × (has_little (get t b) ≡ true)
 
 -- the refusal to make an entry at the path, or the message that makes any entry with this record
 abbrev pub IsNewPlan : At → Tree → List (List ℕ) → Record → Plan → Type 0

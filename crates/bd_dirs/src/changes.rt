@@ -1,16 +1,15 @@
-//! What each change of a directory sends.
+//! What each change of a directory sends, but for clones and renames.
 
-ghost use Rattle.std.specs.Prelude.{◌≡◌, IfOk, OnOk, Some, true, false};
-ghost use Rattle.bd_names.specs.Names.{key_of};
+ghost use Rattle.std.specs.Prelude.{◌≡◌, IfOk, OnOk, Some};
 ghost use Rattle.bd_command.specs.declared.Command.TheVariants as command;
 ghost use Rattle.bd_model.specs.Tree.{Entry, Tree, IsTree};
 ghost use Rattle.bd_model.specs.Step.{with_mode};
 ghost use Rattle.bd_message.specs.KeyMaps.{HasMapCause, NeverWorn};
 ghost use Rattle.bd_message.specs.Reads.{IsLeft};
 ghost use Rattle.bd_represent.specs.Represents.{record_of, Represents};
-ghost use Rattle.bd_dirs.specs.Plans.{IsPlan, IsNewPlan, IsReady, SendsMessages, IsGraftPlan};
+ghost use Rattle.bd_dirs.specs.Plans.{IsPlan, IsNewPlan, IsReady, SendsMessages};
 
-use crate::lookups::{absent, unmakeable, untakeable};
+use crate::lookups::{absent, unmakeable};
 use crate::plan::Plan;
 use bd_command::Refusal;
 use bd_files::{put_record, record};
@@ -114,57 +113,4 @@ pub fn remove<M: KeyMap>(alloc: Global, m: &mut M, path: &Path) -> Result<Plan, 
         from: Bytes::from_vec(Vec::new(alloc)),
     })?;
     Ok(Plan::Apply(Messages::from_vec(list)))
-}
-
-/// What a `clone` asks for: a graft.
-pub fn clone_to<M: KeyMap>(alloc: Global, m: &mut M, a: &Path, b: &Path) -> Result<Plan, MapFault>
-    ensures plan { M.is_known m.old → (t : Tree) → IsTree t → Represents (M.has m.old) t
-        → IfOk result (IsPlan (M.has m.old) t (command.Clone a.now b.now)) }
-    ensures kind { IfOk result (IsGraftPlan (key_of a.now) (key_of b.now) true) }
-    ensures ready { IfOk result IsReady }
-    ensures left { IsLeft M.KeyMap m.old m.new }
-    ensures cause { HasMapCause (M.fault_count m.old) (M.fault_count m.new)
-        (M.last_failed m.new) (M.bad m.new) NeverWorn result }
-{
-    if let Some(refusal) = absent(alloc, m, a)? {
-        return Ok(Plan::Refused(refusal));
-    }
-    if let Some(refusal) = unmakeable(alloc, m, b)? {
-        return Ok(Plan::Refused(refusal));
-    }
-    Ok(Plan::Graft {
-        s: Bytes::from_vec(a.key(alloc)?),
-        d: Bytes::from_vec(b.key(alloc)?),
-        keep: true,
-    })
-}
-
-/// What a `rename` asks for: a graft that leaves nothing at its source, and nothing of a file in
-/// whose place it puts another.
-pub fn rename<M: KeyMap>(alloc: Global, m: &mut M, a: &Path, b: &Path) -> Result<Plan, MapFault>
-    ensures plan { M.is_known m.old → (t : Tree) → IsTree t → Represents (M.has m.old) t
-        → IfOk result (IsPlan (M.has m.old) t (command.Rename a.now b.now)) }
-    ensures kind { IfOk result (IsGraftPlan (key_of a.now) (key_of b.now) false) }
-    ensures ready { IfOk result IsReady }
-    ensures left { IsLeft M.KeyMap m.old m.new }
-    ensures cause { HasMapCause (M.fault_count m.old) (M.fault_count m.new)
-        (M.last_failed m.new) (M.bad m.new) NeverWorn result }
-{
-    if a.is_root() {
-        return Ok(Plan::Refused(Refusal::Root));
-    }
-    if let Some(refusal) = absent(alloc, m, a)? {
-        return Ok(Plan::Refused(refusal));
-    }
-    if b.is_under(a) {
-        return Ok(Plan::Refused(Refusal::Inside));
-    }
-    if let Some(refusal) = untakeable(alloc, m, a, b)? {
-        return Ok(Plan::Refused(refusal));
-    }
-    Ok(Plan::Graft {
-        s: Bytes::from_vec(a.key(alloc)?),
-        d: Bytes::from_vec(b.key(alloc)?),
-        keep: false,
-    })
 }

@@ -7,6 +7,7 @@ mod changes;
 pub mod laws;
 mod listing;
 mod lookups;
+mod moving;
 mod plan;
 mod planning;
 

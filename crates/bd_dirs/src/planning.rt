@@ -12,7 +12,8 @@ ghost use Rattle.bd_files.specs.FilePlans as files;
 ghost use Rattle.bd_dirs.specs.Sendings.{Batch, sending};
 ghost use Rattle.bd_dirs.specs.Plans.{HasSize, IsPlan, IsReady, SendsMessages, IsPlanKind};
 
-use crate::changes::{chmod, clone_to, create, mkdir, remove, rename};
+use crate::changes::{chmod, create, mkdir, remove};
+use crate::moving::{clone_to, rename};
 use crate::plan::Plan;
 use bd_command::Command;
 use bd_files::{FilePlan, plan_truncate, plan_write};

@@ -3,10 +3,9 @@
 ghost use Rattle.std.specs.Prelude.{◌≡◌, ◌≢◌, ◌≤◌, true, false, None, Ok};
 ghost use Rattle.std.specs.Option.{option_copied};
 ghost use Rattle.bd_message.specs.KeyMaps.{HasMapCause};
-ghost use Rattle.bd_dirs.specs.Kinds.{kind_of};
 ghost use Rattle.bd_node.specs.Frames.{OfSound, OnlyReads, Stays};
 ghost use Rattle.bd_path.specs.Made.{AreKnown};
-ghost use Rattle.bd_view.specs.Trees.{waiting_limit, source_of, IsStepIn, IsStepFound, IsWornToStep, IsSettledIn};
+ghost use Rattle.bd_view.specs.Trees.{waiting_limit, IsSourceFor, IsStepIn, IsStepFound, IsWornToStep, IsSettledIn};
 
 use bd_command::Command;
 use bd_limits::{LATE_ROOT, SOFT_BUFFER};
@@ -22,11 +21,11 @@ pub fn flush<S: NodeStore>(
     command: &Command,
     source: Option<&[u8]>,
 ) -> Result<bool, MapFault>
-    requires source { option_copied source ≡ source_of (kind_of command.now) }
+    requires source { IsSourceFor command.now (option_copied source) }
     ensures enough { result ≡ Ok false
         → (S.table tree.old.store).size ≤ waiting_limit command.now }
     ensures idle { (S.table tree.old.store).size ≤ waiting_limit command.now
-        → source_of (kind_of command.now) ≡ None
+        → option_copied source.entry ≡ None
         → (result ≡ Ok false) × (tree.new.store ≡ tree.old.store) }
     ensures found { result ≡ Ok true
         → IsStepFound command.now (S.table tree.old.store) (S.table tree.new.store) }
@@ -43,7 +42,8 @@ pub fn flush<S: NodeStore>(
         → IsStepIn command.now (S.nodes tree.old.store) (S.table tree.old.store)
         (S.nodes tree.new.store) (S.table tree.new.store)) }
     ensures settled { OfSound S.NodeStore tree.old.store (result ≡ Ok false
-        → IsSettledIn command.now (S.nodes tree.old.store) (S.table tree.old.store)) }
+        → IsSettledIn (option_copied source.entry) (S.nodes tree.old.store)
+        (S.table tree.old.store)) }
 {
     if tree.flush_step(waiting_limit(command))? {
         return Ok(true);

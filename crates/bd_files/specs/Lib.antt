@@ -2,3 +2,4 @@ pub mod Files
 pub mod Sends
 pub mod FilePlans
 pub mod Roots
+pub mod Smalls

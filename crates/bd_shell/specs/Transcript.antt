@@ -7,7 +7,7 @@ use Rattle.std.specs.declared.result.Result.TheVariants.{Ok, Err}
 use Rattle.bd_command.specs.Command.{writes, is_done, accepted, IsCommand, IsReply}
 use Rattle.bd_command.specs.declared.Command.{Command}
 use Rattle.bd_command.specs.declared.reply.Reply.{Reply}
-use Rattle.bd_dirs.specs.Kinds.{Kind, Reads, Sends, SendsLate, Grafts, kind_of}
+use Rattle.bd_dirs.specs.Sendings.{Sending, Nothing, Batch, Move, sending}
 use Rattle.bd_graft.specs.declared.grafting.Walk.{Walk as WalkTaken}
 use Rattle.bd_represent.specs.Represents.{Represents}
 use Rattle.bd_model.specs.Tree.{Tree, IsTree}
@@ -473,52 +473,53 @@ AllCanBe s (e ∷ es) = CanBe s e × AllCanBe e.state es
 
 -- ---- what each clone costs
 
--- a clone or a rename
-abbrev pub is_graft : Kind → Bool
-is_graft Reads = false
-is_graft Sends = false
-is_graft SendsLate = false
-is_graft (Grafts s d keep) = true
+-- what is sent is a graft
+abbrev pub is_graft : Sending → Bool
+is_graft Nothing = false
+is_graft (Batch list) = false
+is_graft (Move s d keep) = true
 
-abbrev pub grafts : Command → Bool
-grafts c = is_graft (kind_of c)
+-- the command is a clone or a rename that comes to a graft: of more than a file of one block, or in
+-- place of more
+abbrev pub grafts : State → Command → Bool
+grafts s c = is_graft (sending (keys_of s.view) s.tree c)
 
--- the command is a clone or a rename, and was accepted
-abbrev pub is_made : Command → LineReply → Bool
-is_made c (reply.Command r) = grafts c && is_done r
-is_made c (reply.Unread refusal) = false
-is_made c (reply.Walk visits height) = false
-is_made c reply.Done = false
-is_made c (reply.Free free slots) = false
-is_made c (reply.Full free need) = false
-is_made c reply.Stopped = false
+-- it is, and was accepted
+abbrev pub is_made : State → Command → LineReply → Bool
+is_made s c (reply.Command r) = grafts s c && is_done r
+is_made s c (reply.Unread refusal) = false
+is_made s c (reply.Walk visits height) = false
+is_made s c reply.Done = false
+is_made s c (reply.Free free slots) = false
+is_made s c (reply.Full free need) = false
+is_made s c reply.Stopped = false
 
--- the line is a clone or a rename, and was accepted
-abbrev pub is_grafted_line : LineMeaning → LineReply → Bool
-is_grafted_line (Ok (Run c)) said = is_made c said
-is_grafted_line (Ok Walk) said = false
-is_grafted_line (Ok Df) said = false
-is_grafted_line (Ok Sync) said = false
-is_grafted_line (Ok Checkpoint) said = false
-is_grafted_line (Ok Reclaim) said = false
-is_grafted_line (Ok Stop) said = false
-is_grafted_line (Err refusal) said = false
+-- the line is such a clone or rename, and was accepted
+abbrev pub is_grafted_line : State → LineMeaning → LineReply → Bool
+is_grafted_line s (Ok (Run c)) said = is_made s c said
+is_grafted_line s (Ok Walk) said = false
+is_grafted_line s (Ok Df) said = false
+is_grafted_line s (Ok Sync) said = false
+is_grafted_line s (Ok Checkpoint) said = false
+is_grafted_line s (Ok Reclaim) said = false
+is_grafted_line s (Ok Stop) said = false
+is_grafted_line s (Err refusal) said = false
 
 -- so is a line with its client: no command for a handle is one
-abbrev pub is_grafted : Spoken → TurnReply → Bool
-is_grafted line (turn_reply.Line r) = passes (λ l. is_grafted_line l r) line.turn
-is_grafted line (turn_reply.Opened number) = false
-is_grafted line turn_reply.Closed = false
-is_grafted line (turn_reply.No denial) = false
+abbrev pub is_grafted : State → Spoken → TurnReply → Bool
+is_grafted s line (turn_reply.Line r) = passes (λ l. is_grafted_line s l r) line.turn
+is_grafted s line (turn_reply.Opened number) = false
+is_grafted s line turn_reply.Closed = false
+is_grafted s line (turn_reply.No denial) = false
 
--- an accepted clone or rename visited at most five nodes for each of the height, and two more; every
--- other line keeps the walk
-abbrev pub IsCheap : Spoken → TurnReply → WalkTaken → WalkTaken → Type 0
-IsCheap line said old new =
-    MatchBool (is_grafted line said) (new.visits ≤ 5 * new.height + 2) (new ≡ old)
+-- an accepted clone or rename that comes to a graft visited at most five nodes for each of the
+-- height, and two more; every other line keeps the walk
+abbrev pub IsCheap : State → Spoken → TurnReply → WalkTaken → Type 0
+IsCheap s line said new =
+    MatchBool (is_grafted s line said) (new.visits ≤ 5 * new.height + 2)
+    (new ≡ s.view.tree.walk)
 
 -- so does each entry, from the state before it
 abbrev pub AreCheap : State → List Entry → Type 0
 AreCheap s [] = ⊤
-AreCheap s (e ∷ es) =
-    IsCheap e.line e.said s.view.tree.walk e.state.view.tree.walk × AreCheap e.state es
+AreCheap s (e ∷ es) = IsCheap s e.line e.said e.state.view.tree.walk × AreCheap e.state es

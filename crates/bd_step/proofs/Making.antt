@@ -204,7 +204,7 @@ copy_known known again nodes mid t parent place step knows h = record {
   copy = h.copy;
   copied = h.copied;
   level_is = h.level_is;
-  has = λ k. let both : again × (mid ≡ nodes) = knows k in subst (λ (f : Nodes). IsCopyFor f h.edge h.copy) both.1 (h.has both.0);
+  has = λ k. let both : again × (mid ≡ nodes) = knows k in subst (λ (f : Nodes). IsCopyFor f h.edge (end_at parent.node.value place) h.copy) both.1 (h.has both.0);
   step_is = h.step_is;
 }
 

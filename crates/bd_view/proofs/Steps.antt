@@ -5,10 +5,11 @@ use Rattle.std.proofs.lemmas.Bool.{cases_lt}
 use Rattle.bd_command.specs.Command.{writes}
 use Rattle.bd_command.specs.declared.Command.{Command}
 use Rattle.bd_model.specs.Tree.{Tree}
+use Rattle.bd_dirs.specs.Kinds.{kind_of}
 use Rattle.bd_node.specs.Meaning.{Nodes}
 use Rattle.bd_node.specs.Tables.{Table}
 use Rattle.bd_step.specs.Settling.{IsDueOn, IsSettled}
-use Rattle.bd_view.specs.Trees.{waiting_limit, IsStepIn, IsSettledIn}
+use Rattle.bd_view.specs.Trees.{waiting_limit, source_of, IsStepIn, IsSettledIn}
 use Rattle.bd_view.specs.Trees.IsStepIn.{from_root, of_source}
 use Rattle.bd_view.specs.Views.{View, free_slots, save_slots, need_slots, log_room}
 use Rattle.bd_view.specs.Moves.{OnlyNodes, saved_view, FlushesIn, SavesIn, AreSteps, IsQuietFor, IsCommandFull, IsExecuted}
@@ -64,7 +65,7 @@ still_steps c made v new (save n _ w _ h step) still =
 abbrev pub AreSettledApart : Type 0
 AreSettledApart = (nodes : Nodes) (t : Table) (s : List ℕ) (id place : ℕ) → IsSettled nodes t s → ¬ IsDueOn nodes t s id place
 
-none_due : AreSettledApart → (c : Command) (nodes : Nodes) (t : Table) (new : Nodes) (u : Table) → t.size ≤ waiting_limit c → IsSettledIn c nodes t → IsStepIn c nodes t new u → ⊥
+none_due : AreSettledApart → (c : Command) (nodes : Nodes) (t : Table) (new : Nodes) (u : Table) → t.size ≤ waiting_limit c → IsSettledIn (source_of (kind_of c)) nodes t → IsStepIn c nodes t new u → ⊥
 none_due apart c nodes t new u few settled (from_root many step) = omega (arith, few, many)
 none_due apart c nodes t new u few settled (of_source s little is step) = apart nodes t s step.site.parent.id step.site.place (settled s is) step.here.due
 

@@ -5,12 +5,13 @@ use Rattle.bd_command.specs.Command.{writes}
 use Rattle.bd_command.specs.declared.Command.{Command}
 use Rattle.bd_model.specs.Tree.{Tree}
 use Rattle.bd_model.specs.Laws.{after}
+use Rattle.bd_dirs.specs.Kinds.{kind_of}
 use Rattle.bd_dirs.specs.Sendings.{sending}
 use Rattle.bd_node.specs.Steps.{with_touched}
 use Rattle.bd_node.specs.Tables.{IsKept}
 use Rattle.bd_log.specs.Batches.{blocks_for}
 use Rattle.bd_image.specs.Versions.{mode_version}
-use Rattle.bd_view.specs.Trees.{FlushesFor, IsSettledFor, HasSent, waiting_limit}
+use Rattle.bd_view.specs.Trees.{FlushesFor, IsSettledFor, HasSent, source_of, sent_from, waiting_limit}
 use Rattle.bd_view.specs.Views.{View, keys_of, is_saved, changed_count, kept_ids, free_slots, save_slots, need_slots, record_room, log_size}
 
 -- ---- between checkpoints
@@ -94,11 +95,11 @@ pub record IsCommandFull (c : Command) (old new : View) (free need : ℕ) : Type
   pub short : free < need
   pub unsaved : CannotSave new
 
--- neither is needed: little waits in the root, no step is due on the way of a graft's source, and
--- there is room in slots and in the log
+-- neither is needed: little waits in the root, no step is due on the way of a source, and there is
+-- room in slots and in the log
 pub record IsQuietFor (c : Command) (v : View) : Type 0 where
   pub enough : v.tree.table.size ≤ waiting_limit c
-  pub settled : IsSettledFor c v.tree
+  pub settled : IsSettledFor (source_of (kind_of c)) v.tree
   pub room : need_slots c v ≤ free_slots v
   pub log : log_size c ≤ record_room c v
 
@@ -111,7 +112,8 @@ pub record IsExecuted (t : Tree) (c : Command) (old new : View) : Type 0 where
   pub mid : View
   pub stepped : HasStepped c old mid
   pub enough : mid.tree.table.size ≤ waiting_limit c
-  pub settled : (stepped.made ≡ flush_limit) ⊎ IsSettledFor c mid.tree
+  pub settled : (stepped.made ≡ flush_limit)
+      ⊎ IsSettledFor (sent_from (sending (keys_of old) t c)) mid.tree
   pub room : need_slots c mid ≤ free_slots mid
   pub sent : HasSent (sending (keys_of old) t c) mid.tree new.tree
   pub rest : OnlyNodes mid new
@@ -156,7 +158,8 @@ pub record IsReplayed (t : Tree) (c : Command) (old new : View) : Type 0 where
   pub flushed : AreFlushedAgain c made old mid
   pub few : made ≤ flush_limit
   pub enough : mid.tree.table.size ≤ waiting_limit c
-  pub settled : (made ≡ flush_limit) ⊎ IsSettledFor c mid.tree
+  pub settled : (made ≡ flush_limit)
+      ⊎ IsSettledFor (sent_from (sending (keys_of old) t c)) mid.tree
   pub sent : HasSent (sending (keys_of old) t c) mid.tree new.tree
   pub rest : OnlyNodes mid new
 

@@ -74,17 +74,21 @@ pub data IsWornToStep (known : Type 0) (nodes : Nodes) (t : Table) (c : Command)
   worn_at_source : (s : List ℕ) → t.size ≤ waiting_limit c → source_of (kind_of c) ≡ Some s
       → IsWornToSettle known nodes t s counter → IsWornToStep known nodes t c counter
 
--- no step is due on the way of the source of a command that grafts
-abbrev pub IsSettledIn : Command → Nodes → Table → Type 0
-IsSettledIn c nodes t = (s : List ℕ) → source_of (kind_of c) ≡ Some s → IsSettled nodes t s
+-- a source for which a command may make steps: its own, or none
+abbrev pub IsSourceFor : Command → Option (List ℕ) → Type 0
+IsSourceFor c source = (s : List ℕ) → source ≡ Some s → source_of (kind_of c) ≡ Some s
+
+-- no step is due on the way of a source, where there is one
+abbrev pub IsSettledIn : Option (List ℕ) → Nodes → Table → Type 0
+IsSettledIn source nodes t = (s : List ℕ) → source ≡ Some s → IsSettled nodes t s
 
 -- one flush step of a command leads from a tree to another
 abbrev pub IsStepFor : Command → TreeView → TreeView → Type 0
 IsStepFor c old new = IsStepIn c old.nodes old.table new.nodes new.table
 
--- none is due in a tree on the way of its source
-abbrev pub IsSettledFor : Command → TreeView → Type 0
-IsSettledFor c v = IsSettledIn c v.nodes v.table
+-- none is due in a tree on the way of a source
+abbrev pub IsSettledFor : Option (List ℕ) → TreeView → Type 0
+IsSettledFor source v = IsSettledIn source v.nodes v.table
 
 -- a writing command made one flush step
 pub record FlushesFor (c : Command) (old new : TreeView) : Type 0 where
@@ -135,6 +139,12 @@ pub record IsWalked (t u : Table) (walk : Walk) : Type 0 where
 pub record HasGrafted (s d : List ℕ) (keep : Bool) (old new : TreeView) : Type 0 where
   pub made : IsGraftMade old.nodes old.table s d keep new.nodes new.table new.walk
   pub walked : IsWalked old.table new.table new.walk
+
+-- the prefix of the keys that are grafted, where a graft is sent
+abbrev pub sent_from : Sending → Option (List ℕ)
+sent_from Nothing = None
+sent_from (Batch list) = None
+sent_from (Move s d keep) = Some s
 
 -- what a command sends was sent
 abbrev pub HasSent : Sending → TreeView → TreeView → Type 0

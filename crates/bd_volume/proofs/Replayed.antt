@@ -1,6 +1,6 @@
 -- Commands of the log, replayed one after the other.
 use Rattle.std.proofs.Common.{◌≡◌, ℕ, ◌+◌, ◌*◌, ◌<◌, ◌≤◌, ◌^◌, Bool, false, List, [], ◌∷◌, ◌++◌, length, None, Some, refl, sym, subst, ap, ◌∙◌, inl, inr, arith, lit≤, append_assoc}
-use Rattle.std.specs.Prelude.{◌⊎◌, Result, Ok, Err, OnOk, IfErr, IsTrue}
+use Rattle.std.specs.Prelude.{◌⊎◌, Option, Result, Ok, Err, OnOk, IfErr, IsTrue}
 use Rattle.std.proofs.lemmas.List.{length-append}
 use Rattle.bd_limits.specs.Limits.{flush_limit}
 use Rattle.bd_command.specs.Command.{IsCommand}
@@ -36,7 +36,7 @@ use Rattle.bd_checkpoint.specs.Recovering.{LeadsBy}
 use Rattle.bd_checkpoint.proofs.Checkpointed.{failed_after}
 use Rattle.bd_pager.specs.Pagers.{nodes_of, table_of, is_known, is_bad}
 use Rattle.bd_node.specs.Tables.{IsSound}
-use Rattle.bd_view.specs.Trees.{HasSent, IsSettledFor, TreeView, waiting_limit}
+use Rattle.bd_view.specs.Trees.{HasSent, IsSettledFor, TreeView, sent_from, waiting_limit}
 use Rattle.bd_view.specs.Views.{View, keys_of as view_keys}
 use Rattle.bd_view.specs.Moves.{OnlyNodes, FlushesAgain, AreFlushedAgain, IsReplayed, AreReplayed}
 use Rattle.bd_view.specs.Moves.AreFlushedAgain.{none, more}
@@ -80,7 +80,7 @@ replayed_view t c what a b h is = record {
   flushed = h.flushed;
   few = h.few;
   enough = h.enough;
-  settled = h.settled;
+  settled = subst (λ (x : Sending). (h.made ≡ flush_limit) ⊎ IsSettledFor (sent_from x) h.mid.tree) (sym is) h.settled;
   sent = subst (λ (x : Sending). HasSent x h.mid.tree b.tree) (sym is) h.sent;
   rest = h.rest;
 }
@@ -258,8 +258,8 @@ module _ {D : Type 0} (g : Ghosts D) where
       let low : flushed_on a.engine.flushes made ≤ a.engine.flushes + made = flushed_few a.engine.flushes made in
       omega (arith, low, few, same, h.counted)
 
-  pub has_flushed : (c : Command) (made : ℕ) (a b : Volume D) → FlushedOn c made a b → made ≤ flush_limit → IsSoundOn g a.engine → (made ≡ flush_limit) ⊎ IsSettledFor c (view_of g b).tree → HasFlushedAgain c (view_of g a) (view_of g b)
-  has_flushed c made a b h few s settled = record { made = made; flushed = h.flushed s; few = few; settled = settled }
+  pub has_flushed : (c : Command) (source : Option (List ℕ)) (made : ℕ) (a b : Volume D) → FlushedOn c made a b → made ≤ flush_limit → IsSoundOn g a.engine → (made ≡ flush_limit) ⊎ IsSettledFor source (view_of g b).tree → HasFlushedAgain c source (view_of g a) (view_of g b)
+  has_flushed c source made a b h few s settled = record { made = made; flushed = h.flushed s; few = few; settled = settled }
 
   -- ---- faults of what it sends
 
@@ -273,7 +273,7 @@ module _ {D : Type 0} (g : Ghosts D) where
 
   -- of its graft
   pub graft_fails : (m n : ℕ) (failed : Bool) (worn : Counter → Type 0) (a b d : Volume D) (c : Command) (s1 d1 : List ℕ) (keep : Bool) (fault : MapFault) → IsPlanKind c (Graft s1 d1 keep) → (IsSoundOn g a.engine → IsSoundOn g b.engine) → (IsSoundOn g b.engine → IsSoundOn g d.engine)
-      → KeepsGood g a.engine d.engine → (IsSoundOn g a.engine → HasFlushedAgain c (view_of g a) (view_of g b)) → (table_of b.engine.pager).size ≤ waiting_limit c
+      → KeepsGood g a.engine d.engine → (IsSoundOn g a.engine → HasFlushedAgain c (Some s1) (view_of g a) (view_of g b)) → (table_of b.engine.pager).size ≤ waiting_limit c
       → IsCause m n failed (is_bad g d.engine.pager) worn fault → (IsSoundOn g b.engine → OnWorn (IsWornByGraft (nodes_of g b.engine.pager) (table_of b.engine.pager) s1 d1 keep) fault) → IsAgainFault g (fault_of fault) c a
   graft_fails m n failed worn a b d c s1 d1 keep map.DeviceFault kind sound last good flushed enough h by = tt
   graft_fails m n failed worn a b d c s1 d1 keep (map.Damaged block) kind sound last good flushed enough h by = bad_before g a.engine d.engine block good (λ s. last (sound s)) (bad_on g d.engine block h)
@@ -331,7 +331,7 @@ module _ {D : Type 0} (g : Ghosts D) where
     represents = Represents-along (keys_of g a.engine.pager) (keys_of g b.engine.pager) t (λ k key. read_same g a.engine b.engine read k) h.represents;
   }
 
-  pub sends_again : (c : Command) (what : Sending) (a b d : View) → HasFlushedAgain c a b → b.tree.table.size ≤ waiting_limit c → HasSent what b.tree d.tree → OnlyNodes b d → SendsAgain c what a d
+  pub sends_again : (c : Command) (what : Sending) (a b d : View) → HasFlushedAgain c (sent_from what) a b → b.tree.table.size ≤ waiting_limit c → HasSent what b.tree d.tree → OnlyNodes b d → SendsAgain c what a d
   sends_again c what a b d h enough sent rest = record { made = h.made; mid = b; flushed = h.flushed; few = h.few; enough = enough; settled = h.settled; sent = sent; rest = rest }
 
   pub has_replayed : (a d : Volume D) (t : Tree) (c : Command) (what : Sending) (plan : Plan) (reply : Reply) → IsCommand c → IsTrue (accepts plan) → IsPlan (keys_of g a.engine.pager) t c plan → sending (keys_of g a.engine.pager) t c ≡ what

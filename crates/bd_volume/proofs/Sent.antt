@@ -1,5 +1,6 @@
 -- What an accepted command sends.
-use Rattle.std.proofs.Common.{◌≡◌, ℕ, List, Bool, None, Some, refl, sym, subst, ap, ◌∙◌}
+use Rattle.std.proofs.Common.{◌≡◌, ◌⊎◌, ℕ, List, Bool, Some, sym, subst, ap, ◌∙◌}
+use Rattle.bd_limits.specs.Limits.{flush_limit}
 use Rattle.bd_command.specs.declared.Command.{Command}
 use Rattle.bd_model.specs.Tree.{Tree}
 use Rattle.bd_message.specs.declared.message.Message.{Message}
@@ -10,8 +11,8 @@ use Rattle.bd_dirs.specs.declared.plan.Plan.TheVariants.{Apply, Graft}
 use Rattle.bd_dirs.specs.Kinds.{Kind, Reads, Sends, SendsLate, Grafts, kind_of}
 use Rattle.bd_dirs.specs.Plans.{IsPlan, IsPlanOf, IsPlanKind}
 use Rattle.bd_dirs.specs.Sendings.{Sending, Batch, Move, sending}
-use Rattle.bd_effects.proofs.Carried.{grafted_along}
-use Rattle.bd_view.specs.Trees.{source_of, HasSent}
+use Rattle.bd_dirs.proofs.Along.{grafted_along}
+use Rattle.bd_view.specs.Trees.{source_of, sent_from, HasSent, IsSourceFor, IsSettledFor}
 use Rattle.bd_view.specs.Views.{View, keys_of}
 use Rattle.bd_view.specs.Moves.{IsExecuted, IsAccepted}
 use Rattle.bd_volume.specs.Steps.{SendsIn, LogsIn}
@@ -26,25 +27,15 @@ grafted_over old mid new s d keep same moved = λ k key. moved k key ∙ grafted
 
 -- ---- the source of a graft
 
-no_source : (kind : Kind) (list : List Message) → IsPlanOf kind (Apply list) → None ≡ source_of kind
-no_source Reads list plan = refl
-no_source Sends list plan = refl
-no_source SendsLate list plan = refl
-no_source (Grafts s d keep) list plan = absurd plan
-
--- a command that sends messages has none
-pub messages_source : (c : Command) (list : List Message) → IsPlanKind c (Apply list) → None ≡ source_of (kind_of c)
-messages_source c list plan = no_source (kind_of c) list plan
-
 one_source : (kind : Kind) (s d : List ℕ) (keep : Bool) → IsPlanOf kind (Graft s d keep) → Some s ≡ source_of kind
 one_source Reads s d keep plan = absurd plan
 one_source Sends s d keep plan = absurd plan
 one_source SendsLate s d keep plan = absurd plan
 one_source (Grafts s2 d2 keep2) s d keep plan = ap Some plan.0
 
--- and of one that grafts it is what is planned
-pub graft_source : (c : Command) (s d : List ℕ) (keep : Bool) → IsPlanKind c (Graft s d keep) → Some s ≡ source_of (kind_of c)
-graft_source c s d keep plan = one_source (kind_of c) s d keep plan
+-- it is the command's
+pub graft_source : (c : Command) (s d : List ℕ) (keep : Bool) → IsPlanKind c (Graft s d keep) → IsSourceFor c (Some s)
+graft_source c s d keep plan = λ x is. sym (one_source (kind_of c) s d keep plan) ∙ is
 
 -- ---- what was planned is what the command comes to
 
@@ -53,7 +44,7 @@ executed t c what old new h is = record {
   mid = h.mid;
   stepped = h.stepped;
   enough = h.enough;
-  settled = h.settled;
+  settled = subst (λ (x : Sending). (h.stepped.made ≡ flush_limit) ⊎ IsSettledFor (sent_from x) h.mid.tree) (sym is) h.settled;
   room = h.room;
   sent = subst (λ (x : Sending). HasSent x h.mid.tree new.tree) (sym is) h.sent;
   rest = h.rest;

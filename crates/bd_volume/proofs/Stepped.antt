@@ -1,6 +1,6 @@
 -- Steps of a command, one after the other.
 use Rattle.std.proofs.Common.{◌≡◌, ℕ, ◌+◌, ◌≤◌, sym, subst, arith, lit≤}
-use Rattle.std.specs.Prelude.{◌⊎◌, IsTrue, Result, Ok, Err, OnOk, OnErr}
+use Rattle.std.specs.Prelude.{◌⊎◌, IsTrue, List, Option, Result, Ok, Err, OnOk, OnErr}
 use Rattle.bd_limits.specs.Limits.{flush_limit}
 use Rattle.bd_command.specs.Command.{writes}
 use Rattle.bd_command.specs.declared.Command.{Command}
@@ -40,8 +40,8 @@ one_flush c a b d p step = flush 0 a b d p step
 pub has_stepped : (c : Command) (m : ℕ) (a b : View) → AreSteps c m a b → m ≤ flush_limit → HasStepped c a b
 has_stepped c m a b p few = record { made = m; steps = p; few = few }
 
-pub has_settled : (c : Command) (m : ℕ) (a b : View) → AreSteps c m a b → m ≤ flush_limit → (m ≡ flush_limit) ⊎ IsSettledFor c b.tree → HasSettled c a b
-has_settled c m a b p few settled = record { stepped = record { made = m; steps = p; few = few }; settled = settled }
+pub has_settled : (c : Command) (source : Option (List ℕ)) (m : ℕ) (a b : View) → AreSteps c m a b → m ≤ flush_limit → (m ≡ flush_limit) ⊎ IsSettledFor source b.tree → HasSettled c source a b
+has_settled c source m a b p few settled = record { stepped = record { made = m; steps = p; few = few }; settled = settled }
 
 pub not_stepped : (c : Command) (a b : View) → b ≡ a → HasStepped c a b
 not_stepped c a b same = has_stepped c 0 a b (no_steps c a b same) (lit≤ tt)

@@ -1,5 +1,5 @@
 -- How the commands of an image's log are replayed, and why that stops.
-use Rattle.std.specs.Prelude.{◌≡◌, ◌⊎◌, ◌+◌, ◌*◌, ◌≤◌, ℕ, List, ◌∷◌, ◌++◌, length, map, false, ⊤, Result, OnOk, IfErr}
+use Rattle.std.specs.Prelude.{◌≡◌, ◌⊎◌, ◌+◌, ◌*◌, ◌≤◌, ℕ, List, ◌∷◌, ◌++◌, length, map, false, ⊤, Option, Result, OnOk, IfErr}
 use Rattle.bd_limits.specs.Limits.{flush_limit}
 use Rattle.bd_command.specs.declared.Command.{Command}
 use Rattle.bd_model.specs.Tree.{Tree, IsTree}
@@ -20,7 +20,7 @@ use Rattle.bd_image.specs.Standing.{IsAsBefore}
 use Rattle.bd_checkpoint.specs.Kept.{AllAsBefore}
 use Rattle.bd_checkpoint.specs.declared.commands.PlacedCommand.{PlacedCommand}
 use Rattle.bd_checkpoint.specs.Recovering.{LeadsBy}
-use Rattle.bd_view.specs.Trees.{TreeView, IsSettledFor, HasSent, waiting_limit}
+use Rattle.bd_view.specs.Trees.{TreeView, IsSettledFor, HasSent, sent_from, waiting_limit}
 use Rattle.bd_view.specs.Views.{View}
 use Rattle.bd_view.specs.Moves.{OnlyNodes, AreFlushedAgain, IsReplayed, AreReplayed}
 use Rattle.bd_engine.specs.Engines.{EngineState, keys_of, IsSoundOn, IsBadOn}
@@ -92,7 +92,7 @@ pub record SendsAgain (c : Command) (what : Sending) (old new : View) : Type 0 w
   pub flushed : AreFlushedAgain c made old mid
   pub few : made ≤ flush_limit
   pub enough : mid.tree.table.size ≤ waiting_limit c
-  pub settled : (made ≡ flush_limit) ⊎ IsSettledFor c mid.tree
+  pub settled : (made ≡ flush_limit) ⊎ IsSettledFor (sent_from what) mid.tree
   pub sent : HasSent what mid.tree new.tree
   pub rest : OnlyNodes mid new
 
@@ -120,13 +120,14 @@ pub record WearsAgain (which : Counter) (count : ℕ) (c : Command) (old : View)
   pub few : made ≤ flush_limit
   pub worn : IsWornInReplay which count c made last.tree
 
--- a command of the log made its flush steps, and unless it made 65,536, none is due on the way of
--- its graft's source
-pub record HasFlushedAgain (c : Command) (old new : View) : Type 0 where
+-- a command of the log made its flush steps, and unless it made 65,536, none is due on the way of a
+-- source
+pub record HasFlushedAgain (c : Command) (source : Option (List ℕ)) (old new : View)
+    : Type 0 where
   pub made : ℕ
   pub flushed : AreFlushedAgain c made old new
   pub few : made ≤ flush_limit
-  pub settled : (made ≡ flush_limit) ⊎ IsSettledFor c new.tree
+  pub settled : (made ≡ flush_limit) ⊎ IsSettledFor source new.tree
 
 -- why a flush step of it isn't made: a block is bad, or a counter has no room
 abbrev pub IsFlushFault : {D : Type 0} → Ghosts D → Fault → Command → Volume D → Type 0

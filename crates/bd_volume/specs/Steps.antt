@@ -1,5 +1,5 @@
 -- What the private calls of a volume leave, and why they fail.
-use Rattle.std.specs.Prelude.{◌≡◌, ◌⊎◌, ◌+◌, ◌^◌, ◌<◌, ◌≤◌, ℕ, ⊤, None, Result, IsNone}
+use Rattle.std.specs.Prelude.{◌≡◌, ◌⊎◌, ◌+◌, ◌^◌, ◌<◌, ◌≤◌, ℕ, ⊤, List, Option, None, Result, IsNone}
 use Rattle.bd_limits.specs.Limits.{flush_limit}
 use Rattle.bd_command.specs.Command.{accepted}
 use Rattle.bd_command.specs.declared.Command.{Command}
@@ -12,7 +12,7 @@ use Rattle.bd_message.specs.declared.fault.Counter.TheVariants.{Count, NextId, L
 use Rattle.bd_device.specs.Device.{Stays}
 use Rattle.bd_device.specs.declared.device.Device.{Ghosts}
 use Rattle.bd_dirs.specs.Sendings.{Sending}
-use Rattle.bd_view.specs.Trees.{IsSettledFor, HasSent, waiting_limit}
+use Rattle.bd_view.specs.Trees.{IsSettledFor, HasSent, sent_from, waiting_limit}
 use Rattle.bd_view.specs.Views.{View, free_slots, need_slots, record_room, log_size}
 use Rattle.bd_view.specs.Moves.{OnlyNodes, HasStepped, IsCommandFull, CannotSave, logged}
 use Rattle.bd_engine.specs.Engines.{EngineState, view_of as view_in}
@@ -151,18 +151,18 @@ IsOfAccepted NoMemory t c = ⊤
 IsOfAccepted (Full free need) t c = IsNone (refusal_of t c)
 IsOfAccepted (Stopped call) t c = ⊤
 
--- a command made its steps, and unless it made 65,536 flush steps, none is due on the way of its
--- graft's source
-pub record HasSettled (c : Command) (old new : View) : Type 0 where
+-- a command made its steps, and unless it made 65,536 flush steps, none is due on the way of a
+-- source
+pub record HasSettled (c : Command) (source : Option (List ℕ)) (old new : View) : Type 0 where
   pub stepped : HasStepped c old new
-  pub settled : (stepped.made ≡ flush_limit) ⊎ IsSettledFor c new.tree
+  pub settled : (stepped.made ≡ flush_limit) ⊎ IsSettledFor source new.tree
 
 -- a command made its steps, and then sent this, for which slots were free
 pub record SendsIn (c : Command) (what : Sending) (old new : View) : Type 0 where
   pub mid : View
   pub stepped : HasStepped c old mid
   pub enough : mid.tree.table.size ≤ waiting_limit c
-  pub settled : (stepped.made ≡ flush_limit) ⊎ IsSettledFor c mid.tree
+  pub settled : (stepped.made ≡ flush_limit) ⊎ IsSettledFor (sent_from what) mid.tree
   pub room : need_slots c mid ≤ free_slots mid
   pub sent : HasSent what mid.tree new.tree
   pub rest : OnlyNodes mid new

@@ -9,14 +9,13 @@ ghost use Rattle.bd_model.specs.Step.{step};
 ghost use Rattle.bd_message.specs.KeyMaps.{NeverWorn, SameAt, IsApplied, IsGrafted};
 ghost use Rattle.bd_represent.specs.Plans.{IsSmallBatch};
 ghost use Rattle.bd_represent.specs.Represents.{Represents};
-ghost use Rattle.bd_dirs.specs.Kinds.{kind_of};
 ghost use Rattle.bd_dirs.specs.Plans.{HasSize, IsPlan, IsPlanKind, IsReady};
 ghost use Rattle.bd_dirs.specs.declared.plan.Plan.TheVariants as plan;
 ghost use Rattle.bd_node.specs.Steps.{HasGrown};
 ghost use Rattle.bd_graft.specs.Grafting.{IsWornForGraft, IsWornByGraft, OnWorn};
 ghost use Rattle.bd_pager.specs.Pagers.{nodes_of, table_of};
 ghost use Rattle.bd_recall.specs.Kept.{findings, KeepsWritten};
-ghost use Rattle.bd_view.specs.Trees.{waiting_limit, source_of, IsStepFound, FlushesFor, IsSettledFor, HasAppended, HasGrafted, IsWalked};
+ghost use Rattle.bd_view.specs.Trees.{waiting_limit, IsSourceFor, IsStepFound, FlushesFor, IsSettledFor, HasAppended, HasGrafted, IsWalked};
 ghost use Rattle.bd_engine.specs.Engines.{view_of, keys_of, IsSoundOn, flushes_after, HasCause, IsWornIn, IsReadOn, OnlyNodesOn};
 
 use super::Engine;
@@ -63,11 +62,11 @@ impl<D: Device> Engine<D> {
     /// stays. It writes nothing, and a fault leaves the view.
     pub fn flush(&mut self, command: &Command, source: Option<&[u8]>) -> Result<bool, MapFault>
         requires writes { IsTrue (writes command.now) }
-        requires source { option_copied source ≡ source_of (kind_of command.now) }
+        requires source { IsSourceFor command.now (option_copied source) }
         ensures enough { result ≡ Ok false
             → (table_of self.old.pager).size ≤ waiting_limit command.now }
         ensures idle { (table_of self.old.pager).size ≤ waiting_limit command.now
-            → source_of (kind_of command.now) ≡ None → result ≡ Ok false }
+            → option_copied source.entry ≡ None → result ≡ Ok false }
         ensures found { result ≡ Ok true
             → IsStepFound command.now (table_of self.old.pager) (table_of self.new.pager) }
         ensures counts { self.new.flushes ≡ flushes_after self.old.flushes result }
@@ -82,7 +81,7 @@ impl<D: Device> Engine<D> {
             → FlushesFor command.now (view_of D.Device self.old).tree
             (view_of D.Device self.new).tree }
         ensures settled { IsSoundOn D.Device self.old → result ≡ Ok false
-            → IsSettledFor command.now (view_of D.Device self.old).tree }
+            → IsSettledFor (option_copied source.entry) (view_of D.Device self.old).tree }
         ensures sound { IsSoundOn D.Device self.old → IsSoundOn D.Device self.new }
         ensures same { IsSoundOn D.Device self.old
             → SameAt (keys_of D.Device self.old.pager) (keys_of D.Device self.new.pager) }

@@ -177,7 +177,6 @@ impl<D: Device> Volume<D> {
     fn send(&mut self, command: &Command, list: &[Message]) -> Result<(), Fault>
         requires logged { IsLogged command.now }
         requires small { IsSmallBatch list.now }
-        requires kind { IsPlanKind command.now (plan.Apply list.now) }
         requires going { stop_of self.old ≡ None }
         ensures sends { IsSoundOn D.Device self.old.engine → OnOk result (LogsIn command.now
             (Batch list.now) (view_of D.Device self.old) (view_of D.Device self.new)) }

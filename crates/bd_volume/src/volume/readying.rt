@@ -3,9 +3,8 @@
 ghost use Rattle.std.specs.Prelude.{◌≡◌, ◌≢◌, ◌+◌, ◌^◌, ◌<◌, ◌≤◌, ◌⊎◌, true, false, None, Ok, IfErr, OnOk};
 ghost use Rattle.std.specs.Option.{option_copied};
 ghost use Rattle.bd_command.specs.Log.{IsLogged};
-ghost use Rattle.bd_dirs.specs.Kinds.{kind_of};
 ghost use Rattle.bd_pager.specs.Pagers.{table_of};
-ghost use Rattle.bd_view.specs.Trees.{waiting_limit, source_of, IsSettledFor};
+ghost use Rattle.bd_view.specs.Trees.{waiting_limit, IsSourceFor, IsSettledFor};
 ghost use Rattle.bd_view.specs.Views.{free_slots, need_slots};
 ghost use Rattle.bd_view.specs.Moves.{AreSteps, HasStepped, CannotSave};
 ghost use Rattle.bd_pager.specs.Counting.{memory_of, IsFull};
@@ -33,12 +32,12 @@ impl<D: Device> Volume<D> {
         source: Option<&[u8]>,
     ) -> Result<(), Fault>
         requires logged { IsLogged command.now }
-        requires source { option_copied source ≡ source_of (kind_of command.now) }
+        requires source { IsSourceFor command.now (option_copied source) }
         requires going { stop_of self.old ≡ None }
         ensures stepped { IsSoundOn D.Device self.old.engine → HasStepped command.now
             (view_of D.Device self.old) (view_of D.Device self.new) }
-        ensures settled { IsSoundOn D.Device self.old.engine → OnOk result (HasSettled
-            command.now (view_of D.Device self.old) (view_of D.Device self.new)) }
+        ensures settled { IsSoundOn D.Device self.old.engine → OnOk result (HasSettled command.now
+            (option_copied source.entry) (view_of D.Device self.old) (view_of D.Device self.new)) }
         ensures sound { IsSoundOn D.Device self.old.engine
             → IsSoundOn D.Device self.new.engine }
         ensures keeps { KeepsStanding D.Device self.old self.new }
@@ -113,14 +112,14 @@ impl<D: Device> Volume<D> {
     // that, and says whether it did.
     fn flush_step(&mut self, command: &Command, source: Option<&[u8]>) -> Result<bool, Fault>
         requires logged { IsLogged command.now }
-        requires source { option_copied source ≡ source_of (kind_of command.now) }
+        requires source { IsSourceFor command.now (option_copied source) }
         requires going { stop_of self.old ≡ None }
         ensures flushed { IsSoundOn D.Device self.old.engine → result ≡ Ok true
             → AreSteps command.now 1 (view_of D.Device self.old) (view_of D.Device self.new) }
         ensures rest { IsSoundOn D.Device self.old.engine → result ≢ Ok true
             → AreSteps command.now 0 (view_of D.Device self.old) (view_of D.Device self.new) }
         ensures settled { IsSoundOn D.Device self.old.engine → result ≡ Ok false
-            → IsSettledFor command.now (view_of D.Device self.new).tree }
+            → IsSettledFor (option_copied source.entry) (view_of D.Device self.new).tree }
         ensures sound { IsSoundOn D.Device self.old.engine
             → IsSoundOn D.Device self.new.engine }
         ensures keeps { KeepsStanding D.Device self.old self.new }

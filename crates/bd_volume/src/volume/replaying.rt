@@ -8,11 +8,10 @@ ghost use Rattle.bd_model.specs.Tree.{Tree};
 ghost use Rattle.bd_message.specs.KeyMaps.{SameAt, IsApplied, IsGrafted};
 ghost use Rattle.bd_pager.specs.Pagers.{table_of};
 ghost use Rattle.bd_represent.specs.Plans.{IsSmallBatch};
-ghost use Rattle.bd_dirs.specs.Kinds.{kind_of};
 ghost use Rattle.bd_dirs.specs.Plans.{IsPlan, IsPlanKind, IsReady};
 ghost use Rattle.bd_dirs.specs.Sendings.{Batch, Move};
 ghost use Rattle.bd_dirs.specs.declared.plan.Plan.TheVariants as plan;
-ghost use Rattle.bd_view.specs.Trees.{waiting_limit, source_of, IsSettledFor};
+ghost use Rattle.bd_view.specs.Trees.{waiting_limit, IsSourceFor, IsSettledFor};
 ghost use Rattle.bd_view.specs.Moves.{FlushesAgain, AreFlushedAgain};
 ghost use Rattle.bd_engine.specs.Engines.{keys_of, flushes_after, IsSoundOn};
 ghost use Rattle.bd_volume.specs.Volume.{view_of, without_walk, count_of, stop_of};
@@ -122,7 +121,6 @@ impl<D: Device> Volume<D> {
     fn append_again(&mut self, command: &Command, list: &[Message]) -> Result<(), Fault>
         requires logged { IsLogged command.now }
         requires small { IsSmallBatch list.now }
-        requires kind { IsPlanKind command.now (plan.Apply list.now) }
         requires going { stop_of self.old ≡ None }
         ensures sends { IsSoundOn D.Device self.old.engine → OnOk result (SendsAgain
             command.now (Batch list.now) (view_of D.Device self.old) (view_of D.Device self.new)) }
@@ -181,10 +179,11 @@ impl<D: Device> Volume<D> {
     // before a graft 1,024 bytes or more for its source on the way of that. They need no slots.
     fn flush_again(&mut self, command: &Command, source: Option<&[u8]>) -> Result<(), Fault>
         requires logged { IsLogged command.now }
-        requires source { option_copied source ≡ source_of (kind_of command.now) }
+        requires source { IsSourceFor command.now (option_copied source) }
         requires going { stop_of self.old ≡ None }
         ensures flushed { IsSoundOn D.Device self.old.engine → OnOk result
-            (HasFlushedAgain command.now (view_of D.Device self.old) (view_of D.Device self.new)) }
+            (HasFlushedAgain command.now (option_copied source.entry) (view_of D.Device self.old)
+            (view_of D.Device self.new)) }
         ensures same { IsSoundOn D.Device self.old.engine
             → SameAt (keys_of D.Device self.old.engine.pager)
             (keys_of D.Device self.new.engine.pager) }
@@ -218,14 +217,14 @@ impl<D: Device> Volume<D> {
     // on the way of that, and says whether it did.
     fn flush_once(&mut self, command: &Command, source: Option<&[u8]>) -> Result<bool, Fault>
         requires logged { IsLogged command.now }
-        requires source { option_copied source ≡ source_of (kind_of command.now) }
+        requires source { IsSourceFor command.now (option_copied source) }
         requires going { stop_of self.old ≡ None }
         ensures flushed { IsSoundOn D.Device self.old.engine → result ≡ Ok true
             → FlushesAgain command.now (view_of D.Device self.old) (view_of D.Device self.new) }
         ensures rest { IsSoundOn D.Device self.old.engine → result ≢ Ok true
             → view_of D.Device self.new ≡ view_of D.Device self.old }
         ensures settled { IsSoundOn D.Device self.old.engine → result ≡ Ok false
-            → IsSettledFor command.now (view_of D.Device self.new).tree }
+            → IsSettledFor (option_copied source.entry) (view_of D.Device self.new).tree }
         ensures same { IsSoundOn D.Device self.old.engine
             → SameAt (keys_of D.Device self.old.engine.pager)
             (keys_of D.Device self.new.engine.pager) }

@@ -1,5 +1,5 @@
 -- A flush step of a command is one from the root, or one for a graft's source.
-use Rattle.std.proofs.Common.{◌≡◌, ◌<◌, ◌≤◌, ap, sym, subst, ◌∙◌, arith}
+use Rattle.std.proofs.Common.{◌≡◌, ◌<◌, ◌≤◌, ap, subst, arith}
 use Rattle.std.specs.Prelude.{Ok, Some}
 use Rattle.std.specs.Option.{option_copied}
 use Rattle.std.proofs.lemmas.Result.{err_from_is_err_and}
@@ -36,14 +36,14 @@ returns-then-branch-clause-step g c = λ known sound is.
 pub returns-in-Some-clause-found : goal.returns-in-Some-clause-found
 returns-in-Some-clause-found g c = λ yes.
     let few : (g.S.NodeStore.table c.args.tree.now.store).size ≤ waiting_limit c.args.command.now = omega (arith, c.in_ok-flush_step.ensures.enough.0 (ap Ok c.if-branch.false), c.waiting_limit.ensures) in
-    let is : source_of (kind_of c.args.command.now) ≡ Some c.in-Some.source.now = sym c.requires.source ∙ ap (λ o. option_copied o) c.in-Some.is in
+    let is : source_of (kind_of c.args.command.now) ≡ Some c.in-Some.source.now = c.requires.source c.in-Some.source.now (ap (λ o. option_copied o) c.in-Some.is) in
     found_at_source c.in-Some.source.now few is
     (subst (λ (x : g.row.S.Denot). IsSettleFound (g.S.NodeStore.table x) (g.S.NodeStore.table c.settle_step.new.self.store)) (c.in_ok-flush_step.ensures.unchanged (ap Ok c.if-branch.false)) (c.settle_step.ensures.found yes))
 
 pub returns-in-Some-clause-cause : goal.returns-in-Some-clause-cause
 returns-in-Some-clause-cause g c =
     let few : (g.S.NodeStore.table c.args.tree.now.store).size ≤ waiting_limit c.args.command.now = omega (arith, c.in_ok-flush_step.ensures.enough.0 (ap Ok c.if-branch.false), c.waiting_limit.ensures) in
-    let is : source_of (kind_of c.args.command.now) ≡ Some c.in-Some.source.now = sym c.requires.source ∙ ap (λ o. option_copied o) c.in-Some.is in
+    let is : source_of (kind_of c.args.command.now) ≡ Some c.in-Some.source.now = c.requires.source c.in-Some.source.now (ap (λ o. option_copied o) c.in-Some.is) in
     let new : g.row.S.Denot = c.settle_step.new.self.store in
     source_cause _ _ _ _ _ _ _ c.args.command.now c.in-Some.source.now _ few is
     (subst (λ (x : g.row.S.Denot). HasMapCause (g.S.NodeStore.fault_count x) (g.S.NodeStore.fault_count new) (g.S.NodeStore.last_failed new) (g.S.NodeStore.bad new) (IsWornToSettle (AreKnown g.S.NodeStore x) (g.S.NodeStore.nodes x) (g.S.NodeStore.table x) c.in-Some.source.now) c.settle_step.result)
@@ -52,7 +52,7 @@ returns-in-Some-clause-cause g c =
 pub returns-in-Some-clause-step : goal.returns-in-Some-clause-step
 returns-in-Some-clause-step g c = λ known sound yes.
     let few : (g.S.NodeStore.table c.args.tree.now.store).size ≤ waiting_limit c.args.command.now = omega (arith, c.in_ok-flush_step.ensures.enough.0 (ap Ok c.if-branch.false), c.waiting_limit.ensures) in
-    let is : source_of (kind_of c.args.command.now) ≡ Some c.in-Some.source.now = sym c.requires.source ∙ ap (λ o. option_copied o) c.in-Some.is in
+    let is : source_of (kind_of c.args.command.now) ≡ Some c.in-Some.source.now = c.requires.source c.in-Some.source.now (ap (λ o. option_copied o) c.in-Some.is) in
     let new : g.row.S.Denot = c.settle_step.new.self.store in
     of_source c.in-Some.source.now few is
     (subst (λ (x : g.row.S.Denot). OfSound g.S.NodeStore x (IsSettleStep (g.S.NodeStore.nodes x) (g.S.NodeStore.table x) c.in-Some.source.now (g.S.NodeStore.nodes new) (g.S.NodeStore.table new)))

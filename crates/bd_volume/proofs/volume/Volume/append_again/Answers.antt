@@ -9,11 +9,8 @@ use Rattle.bd_volume.specs.Volume.{view_of}
 use Rattle.bd_volume.proofs.Early.{early_goes, goes_ok, goes_both, goes_nodes}
 use Rattle.bd_volume.proofs.Bad.{good_both, good_kept}
 use Rattle.bd_volume.proofs.Replayed.{cause_map, cause_ok, cause_then, append_fails, sends_again}
-use Rattle.bd_volume.proofs.Sent.{messages_source, applied_over}
+use Rattle.bd_volume.proofs.Sent.{applied_over}
 use Rattle.bd_volume.proofs.volume.Volume.append_again.Goals as goal
-
-pub flush_again-requires-clause-source : goal.flush_again-requires-clause-source
-flush_again-requires-clause-source g c = messages_source c.args.command.now c.args.list.now c.requires.kind
 
 pub returns-in_err-append-clause-fails : goal.returns-in_err-append-clause-fails
 returns-in_err-append-clause-fails g c =

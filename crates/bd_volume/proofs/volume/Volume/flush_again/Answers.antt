@@ -51,7 +51,7 @@ returns-then-not-branch-clause-flushed g c = λ s.
     let h = c.in_ok-flush_once.ensures in
     let off = c.if-not-branch.true in
     let last = flushed_last g.D.Device c.args.command.now c.loop-made._made c.args.self.now c.loop-made.self c.flush_once.new.self i h.sound h.same (λ k. h.rest k (λ e. cc)) (goes_ok g.D.Device c.loop-made.self c.flush_once.new.self _ h.writes) h.cause.kept h.count_stays (h.counted ∙ ap (λ (r : Result Bool Fault). flushes_after c.loop-made.self.engine.flushes r) (ap Ok off)) in
-    has_flushed g.D.Device c.args.command.now c.loop-made._made c.args.self.now c.flush_once.new.self last (omega (arith, c.loop-made-test.true)) s (inr (h.settled (i.sound s) (ap Ok off)))
+    has_flushed g.D.Device c.args.command.now _ c.loop-made._made c.args.self.now c.flush_once.new.self last (omega (arith, c.loop-made-test.true)) s (inr (h.settled (i.sound s) (ap Ok off)))
 
 pub returns-then-not-branch-clause-same : goal.returns-then-not-branch-clause-same
 returns-then-not-branch-clause-same g c = λ s.
@@ -72,7 +72,7 @@ returns-then-not-branch-clause-cause g c =
 
 pub returns-then-root_size-waiting_limit-clause-flushed : goal.returns-then-root_size-waiting_limit-clause-flushed
 returns-then-root_size-waiting_limit-clause-flushed g c = λ s.
-    has_flushed g.D.Device c.args.command.now c.loop-made._made c.args.self.now c.loop-made.self c.loop-made.invariant (omega (arith, c.loop-made.auto._made-end)) s (inl (omega (arith, c.loop-made.auto._made-end, c.loop-made-test.false)))
+    has_flushed g.D.Device c.args.command.now _ c.loop-made._made c.args.self.now c.loop-made.self c.loop-made.invariant (omega (arith, c.loop-made.auto._made-end)) s (inl (omega (arith, c.loop-made.auto._made-end, c.loop-made-test.false)))
 
 pub returns-clause-fails : goal.returns-clause-fails
 returns-clause-fails g c = λ s.

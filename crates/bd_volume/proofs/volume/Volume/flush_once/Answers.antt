@@ -2,6 +2,7 @@
 use Rattle.std.proofs.Common.{◌≡◌, ℕ, true, false, ap, sym, subst, ◌∙◌}
 use Rattle.std.specs.Prelude.{Ok}
 use Rattle.std.proofs.lemmas.Result.{err_from_is_err_and}
+use Rattle.std.specs.Option.{option_copied}
 use Rattle.bd_view.specs.Trees.{IsSettledFor}
 use Rattle.bd_view.specs.Views.{View}
 use Rattle.bd_view.specs.Moves.{FlushesAgain}
@@ -94,7 +95,7 @@ pub returns-clause-settled : goal.returns-clause-settled
 returns-clause-settled g c = λ s is.
     let h = c.in_ok-flush.ensures in
     let off : c.in_ok-flush.field-0 ≡ false = cc in
-    subst (λ (v : View). IsSettledFor c.args.command.now v.tree) (sym (h.rest (λ e. cc)).view) (h.settled (c.in_ok-spill.ensures.sound s) (ap Ok off))
+    subst (λ (v : View). IsSettledFor (option_copied c.args.source) v.tree) (sym (h.rest (λ e. cc)).view) (h.settled (c.in_ok-spill.ensures.sound s) (ap Ok off))
 
 pub returns-clause-same : goal.returns-clause-same
 returns-clause-same g c = λ s k. c.in_ok-flush.ensures.same (c.in_ok-spill.ensures.sound s) k ∙ early_keys g.D.Device c.args.self.now c.spill.new.self (c.in_ok-spill.ensures.view s) k

@@ -2,6 +2,7 @@
 use Rattle.std.proofs.Common.{◌≡◌, true, false, refl, sym, subst, ap}
 use Rattle.std.specs.Prelude.{Ok}
 use Rattle.std.proofs.lemmas.Result.{err_from_is_err_and}
+use Rattle.std.specs.Option.{option_copied}
 use Rattle.bd_view.specs.Trees.{IsSettledFor}
 use Rattle.bd_view.specs.Views.{View}
 use Rattle.bd_engine.specs.Engines.{EngineState, IsWornIn}
@@ -57,7 +58,7 @@ pub returns-clause-settled : goal.returns-clause-settled
 returns-clause-settled g c = λ s is.
     let h = c.in_ok-flushed.ensures in
     let off : c.in_ok-flushed.field-0 ≡ false = cc in
-    subst (λ (v : View). IsSettledFor c.args.command.now v.tree) (sym (h.rest (λ e. cc)).view) (h.settled (c.in_ok-make_room.ensures.sound s) (ap Ok off))
+    subst (λ (v : View). IsSettledFor (option_copied c.args.source) v.tree) (sym (h.rest (λ e. cc)).view) (h.settled (c.in_ok-make_room.ensures.sound s) (ap Ok off))
 
 pub returns-in_err-flushed-clause-keeps : goal.returns-in_err-flushed-clause-keeps
 returns-in_err-flushed-clause-keeps g c =

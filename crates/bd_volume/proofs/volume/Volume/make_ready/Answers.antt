@@ -87,7 +87,7 @@ returns-then-not-branch-clause-settled g c = λ s.
     let new = view_of g.D.Device c.flush_step.new.self in
     let i = c.loop-made.invariant in
     let off = c.if-not-branch.true in
-    has_settled c.args.command.now c.loop-made._made old new
+    has_settled c.args.command.now _ c.loop-made._made old new
     (steps_saved c.args.command.now c.loop-made._made old (view_of g.D.Device c.loop-made.self) new (i.steps s) (c.in_ok-flush_step.ensures.rest (i.sound s) (λ e. cc)))
     (omega (arith, c.loop-made-test.true)) (inr (c.in_ok-flush_step.ensures.settled (i.sound s) (ap Ok off)))
 
@@ -141,7 +141,7 @@ returns-then-root_size-waiting_limit-clause-settled g c = λ s.
     let old = view_of g.D.Device c.args.self.now in
     let new = view_of g.D.Device c.make_room.new.self in
     let i = c.loop-made.invariant in
-    has_settled c.args.command.now c.loop-made._made old new
+    has_settled c.args.command.now _ c.loop-made._made old new
     (steps_saved c.args.command.now c.loop-made._made old (view_of g.D.Device c.loop-made.self) new (i.steps s) (c.in_ok-make_room.ensures.steps (i.sound s)))
     (omega (arith, c.loop-made.auto._made-end)) (inl (omega (arith, c.loop-made.auto._made-end, c.loop-made-test.false)))
 

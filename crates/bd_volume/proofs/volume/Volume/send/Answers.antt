@@ -10,14 +10,11 @@ use Rattle.bd_volume.proofs.Called.{went_on, goes_then, ends_then, ends_logged, 
 use Rattle.bd_volume.proofs.Faulted.{read_halts}
 use Rattle.bd_volume.proofs.Keeping.{keeps_then, keeps_read, logs_on}
 use Rattle.bd_volume.proofs.Room.{room_nodes}
-use Rattle.bd_volume.proofs.Sent.{messages_source, applied_over}
+use Rattle.bd_volume.proofs.Sent.{applied_over}
 use Rattle.bd_volume.proofs.Stepped.{stepped_stand}
 use Rattle.bd_volume.proofs.Read.{logged_sound}
 use Rattle.bd_volume.proofs.Writes.{writes_read, writes_nodes}
 use Rattle.bd_volume.proofs.volume.Volume.send.Goals as goal
-
-pub make_ready-requires-clause-source : goal.make_ready-requires-clause-source
-make_ready-requires-clause-source g c = messages_source c.args.command.now c.args.list.now c.requires.kind
 
 pub returns-in_err-appended-clause-fails : goal.returns-in_err-appended-clause-fails
 returns-in_err-appended-clause-fails g c = λ s.
