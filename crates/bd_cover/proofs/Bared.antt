@@ -1,14 +1,16 @@
 -- Nodes without a child in which nothing stands.
-use Rattle.std.proofs.Common.{◌≡◌, ℕ, zero, suc, ◌+◌, ◌<◌, ◌≤◌, Bool, true, false, cond, List, [], ◌∷◌, ◌++◌, length, take, drop, map, refl, sym, ap, subst, ◌∙◌, Option, None, Some, inl, inr, arith, length-take, IsTrue, ◌↔◌}
+use Rattle.std.proofs.Common.{◌≡◌, ℕ, zero, suc, ◌+◌, ◌<◌, ◌≤◌, Bool, true, false, cond, List, [], ◌∷◌, ◌++◌, length, take, drop, map, refl, sym, ap, subst, ◌∙◌, Option, None, Some, inl, inr, arith, IsTrue, ◌↔◌}
+use Rattle.std.specs.Prelude.{IfSome}
 use Rattle.std.specs.List.{AllByRecursion}
 use Rattle.std.specs.Option.{option_to_list}
-use Rattle.std.specs.Ordering.{is_lt}
 use Rattle.std.proofs.lemmas.Bool.{cases_Bool, cases_eq, cond-true, cond-false}
-use Rattle.std.proofs.lemmas.List.{length-take-le, take-append-drop}
 use Rattle.std.proofs.lemmas.List.Sums.{sum_by-cons, sum_by-append}
 use Rattle.std.proofs.lemmas.Option.{same_Some, none-some}
 use Rattle.bd_limits.specs.Limits.{edge_limit}
-use Rattle.bd_keys.specs.Keys.{key_cmp, IsKey, Begins, InRange}
+use Rattle.bd_keys.specs.declared.range.Range.{Range}
+use Rattle.bd_keys.specs.Keys.{IsKey, InRange}
+use Rattle.bd_keys.specs.Ranges.{Has}
+use Rattle.bd_keys.proofs.Order.{not_below_nil}
 use Rattle.bd_message.specs.declared.message.Message.{Message}
 use Rattle.bd_message.specs.declared.message.Message.TheVariants.{Put, Del, Patch, Cut, Goto}
 use Rattle.bd_message.specs.Effect.{NodesAt, same_key, is_cut, act, acts}
@@ -20,25 +22,35 @@ use Rattle.bd_node.specs.declared.node.Node.TheVariants.{Leaf, Inner}
 use Rattle.bd_node.specs.Compaction.{IsLooseNode, lowered}
 use Rattle.bd_node.specs.Keeping.{staying}
 use Rattle.bd_node.specs.Meaning.{Nodes, at as meaning}
-use Rattle.bd_node.specs.Nodes.{level_of, buffer_size, edge_names, times, is_key, entry_at, edge_from, edge_of, child_at, edge_at, through, node_at, node_has}
+use Rattle.bd_node.specs.Nodes.{level_of, buffer_size, edge_names, times, is_key, entry_at, edge_of, child_at, edge_at, through, node_at, node_has}
 use Rattle.bd_node.specs.Parts.{edges_of, buffer_of, end_at, IsEdgeAt}
 use Rattle.bd_node.specs.Pushes.{exchanged}
-use Rattle.bd_node.specs.Shape.{IsEdge, IsShape}
+use Rattle.bd_node.specs.Shape.{EachEdge, IsEdge, IsShape}
+use Rattle.bd_node.specs.Touching.{touches, CanTouch}
 use Rattle.bd_node.specs.Tables.{Table, IsSound}
 use Rattle.bd_node.proofs.Compacting.{compacted_shape, compacted_level, compacted_meaning, compacted_size, compacted_times}
 use Rattle.bd_node.proofs.Meanings.{at-meets}
 use Rattle.bd_node.proofs.Parts.{edge_within}
-use Rattle.bd_node.proofs.Sound.{sound-levelled}
+use Rattle.bd_node.proofs.Sound.{sound-levelled, node_of}
+use Rattle.bd_node.proofs.Appending.{some_has}
+use Rattle.bd_node.proofs.Edges.{some_edge}
+use Rattle.bd_node.proofs.LawLemmas.{untouched}
+use Rattle.bd_node.proofs.Lookup.{key-is_key}
+use Rattle.bd_inner.specs.Batches.{IsLifted}
 use Rattle.bd_inner.specs.Exchanging.{FitsAt}
 use Rattle.bd_inner.specs.Halves.{bare_edge}
 use Rattle.bd_inner.proofs.Exchanged.{at_place, in_range, exchanged_shape, meaning_before, meaning_inside, meaning_outside}
 use Rattle.bd_inner.proofs.Fitting.{own_shape}
-use Rattle.bd_cover.specs.Bare.{HasNoBare, IsAsked, Removes, IsChildless, HasNothingFor, IsBareWay, IsBareAt, IsBared}
+use Rattle.bd_cover.specs.declared.asking.Ask.{Ask}
+use Rattle.bd_cover.specs.Asked.{asks}
+use Rattle.bd_cover.specs.Bare.{Removes, PutsNothing, FindsNothing, HasNothing, look_limit, HasNoBare, IsBareWay, IsBareAt, IsBared}
 use Rattle.bd_cover.specs.Reclaimed.{child_count, unseen_count, left_at}
+use Rattle.bd_cover.proofs.Asks.{asks_at}
 use Rattle.bd_cover.proofs.Decided.{few_edges, join_times}
+use Rattle.bd_cover.proofs.Nothing.{no_depth, finds}
 use Rattle.bd_cover.proofs.Falls.{after, count_after, lowered_after, children, lowered_children}
 
--- ---- nothing stands in the child
+-- ---- nothing stands at the keys that the child is asked for
 
 none_both : (b : Bool) → ◌≡◌ {A = Option (List ℕ)} (cond b None None) None
 none_both true = refl
@@ -51,92 +63,82 @@ remove_one below (Patch key off bytes) k removes = absurd removes
 remove_one below (Cut prefix from) k removes = none_both (is_cut prefix from k)
 remove_one below (Goto prefix source child) k removes = absurd removes
 
-remove_all : (below : NodesAt) (ms : List Message) (k : List ℕ) → AllByRecursion Removes ms → acts below ms k None ≡ None
-remove_all below [] k all = refl
-remove_all below (m ∷ ms) k all = ap (λ (v : Option (List ℕ)). acts below ms k v) (remove_one below m k all.0) ∙ remove_all below ms k all.1
+put_none : (below : NodesAt) (m : Message) (keys : Range) (k : List ℕ) → (CanTouch m keys.lo keys.hi → Removes m) → Has keys k → act below m k None ≡ None
+put_none below m keys k puts has = elim (cases_Bool (touches m k)) [
+  | inl touched ↦ remove_one below m k (puts (k, has, touched))
+  | inr other ↦ untouched below m k other None
+]
 
-removes_drop : (n : ℕ) (ms : List Message) → AllByRecursion Removes ms → AllByRecursion Removes (drop n ms)
-removes_drop zero ms all = all
-removes_drop (suc n) [] all = tt
-removes_drop (suc n) (m ∷ ms) all = removes_drop n ms all.1
+all_put_none : (below : NodesAt) (ms : List Message) (keys : Range) (k : List ℕ) → AllByRecursion (λ (m : Message). CanTouch m keys.lo keys.hi → Removes m) ms → Has keys k → acts below ms k None ≡ None
+all_put_none below [] keys k puts has = refl
+all_put_none below (m ∷ ms) keys k puts has = ap (λ (v : Option (List ℕ)). acts below ms k v) (put_none below m keys k puts.0 has) ∙ all_put_none below ms keys k puts.1 has
 
-childless_from : (e : Edge) (es : List Edge) (k : List ℕ) → IsChildless e → AllByRecursion IsChildless es → IsChildless (edge_from e es k)
-childless_from e [] k own all = own
-childless_from e (f ∷ es) k own all =
-    elim (cases_Bool (is_lt (key_cmp k f.pivot))) [
-      | inl less ↦ subst (λ (d : Edge). IsChildless d) (sym (cond-true (is_lt (key_cmp k f.pivot)) e (edge_from f es k) less)) own
-      | inr more ↦ subst (λ (d : Edge). IsChildless d) (sym (cond-false (is_lt (key_cmp k f.pivot)) e (edge_from f es k) more)) (childless_from f es k all.0 all.1)
-    ]
+puts_drop : (P : Message → Type 0) (n : ℕ) (ms : List Message) → AllByRecursion P ms → AllByRecursion P (drop n ms)
+puts_drop P zero ms all = all
+puts_drop P (suc n) [] all = tt
+puts_drop P (suc n) (m ∷ ms) all = puts_drop P n ms all.1
 
-edge_nothing : (below : NodesAt) (e : Edge) (buffer : List Message) (k : List ℕ) → IsChildless e → AllByRecursion Removes buffer → edge_at below e buffer k ≡ None
-edge_nothing below e buffer k childless removes =
-    ap (λ (o : Option ℕ). acts below (drop e.seen buffer) k (child_at below o (e.source ++ drop e.lift k))) childless
-    ∙ remove_all below (drop e.seen buffer) k (removes_drop e.seen buffer removes)
-
-edges_nothing : (below : NodesAt) (es : List Edge) (buffer : List Message) (k : List ℕ) → AllByRecursion IsChildless es → AllByRecursion Removes buffer → through below (edge_of es k) buffer k ≡ None
-edges_nothing below [] buffer k childless removes = refl
-edges_nothing below (e ∷ es) buffer k childless removes = edge_nothing below (edge_from e es k) buffer k (childless_from e es k childless.0 childless.1) removes
-
-entries_nothing : (e : Edge) (hi : Option (List ℕ)) (entries : List Entry) (k : List ℕ) → AllByRecursion (λ (x : Entry). ¬ IsAsked e hi x.key) entries → IsAsked e hi k → entry_at entries k ≡ None
-entries_nothing e hi [] k none asked = refl
-entries_nothing e hi (x ∷ xs) k none asked =
+entries_nothing : (keys : Range) (entries : List Entry) (k : List ℕ) → AllByRecursion (λ (x : Entry). ¬ Has keys x.key) entries → Has keys k → entry_at entries k ≡ None
+entries_nothing keys [] k none has = refl
+entries_nothing keys (x ∷ xs) k none has =
     elim (cases_Bool (same_key k x.key)) [
-      | inl same ↦ absurd (none.0 (subst (λ (l : List ℕ). IsAsked e hi l) (same_key-true k x.key same) asked))
-      | inr other ↦ cond-false (same_key k x.key) (Some x.value) (entry_at xs k) other ∙ entries_nothing e hi xs k none.1 asked
+      | inl same ↦ absurd (none.0 (subst (λ (l : List ℕ). Has keys l) (same_key-true k x.key same) has))
+      | inr other ↦ cond-false (same_key k x.key) (Some x.value) (entry_at xs k) other ∙ entries_nothing keys xs k none.1 has
     ]
 
-node_nothing : (below : NodesAt) (n : Node) (e : Edge) (hi : Option (List ℕ)) (k : List ℕ) → HasNothingFor n e hi → IsAsked e hi k → node_at below n k ≡ None
-node_nothing below (Leaf entries) e hi k nothing asked = entries_nothing e hi entries k nothing asked
-node_nothing below (Inner level es buffer) e hi k nothing asked = edges_nothing below es buffer k nothing.0 nothing.1
+each_both : (P Q : Edge → Option (List ℕ) → Type 0) (es : List Edge) → EachEdge P es → EachEdge Q es → EachEdge (λ (e : Edge) hi. P e hi × Q e hi) es
+each_both P Q [] first second = tt
+each_both P Q (e ∷ es) first second = ((first.0, second.0), each_both P Q es first.1 second.1)
 
-has_nothing : (below : NodesAt) (n : Node) (e : Edge) (hi : Option (List ℕ)) (k : List ℕ) → HasNothingFor n e hi → IsAsked e hi k → node_has below n k ≡ None
-has_nothing below n e hi k nothing asked =
+edge_lift : (count : ℕ) (e : Edge) (hi : Option (List ℕ)) → IsEdge count e hi → IsLifted e hi
+edge_lift count e hi own = record { rising = own.rising; lift = own.lift; common = own.common }
+
+-- what is asked of an edge's child has nothing, if what the edge asks does
+child_nothing : (below : NodesAt) (Finds : Ask → Type 0) (count : ℕ) (e : Edge) (hi : Option (List ℕ)) (keys : Range) (k : List ℕ) (child : Option ℕ) → ((ask : Ask) (l : List ℕ) → Finds ask → Has ask.keys l → below ask.child l ≡ None) → IsEdge count e hi → IsKey k → InRange e.pivot hi k → Has keys k → IfSome (asks e hi keys.lo keys.hi) Finds → e.child ≡ child
+    → child_at below child (e.source ++ drop e.lift k) ≡ None
+child_nothing below Finds count e hi keys k None none own key range has finds is = refl
+child_nothing below Finds count e hi keys k (Some child) none own key range has finds is =
+    let at_k = asks_at e hi keys.lo keys.hi k child (edge_lift count e hi own) key range has is in
+    ap (λ (c : ℕ). below c (e.source ++ drop e.lift k)) (sym at_k.2)
+    ∙ none at_k.0 (e.source ++ drop e.lift k) (subst (λ (o : Option Ask). IfSome o Finds) at_k.1 finds) at_k.3
+
+edge_nothing : (below : NodesAt) (Finds : Ask → Type 0) (e : Edge) (hi : Option (List ℕ)) (buffer : List Message) (keys : Range) (k : List ℕ) → ((ask : Ask) (l : List ℕ) → Finds ask → Has ask.keys l → below ask.child l ≡ None) → IsEdge (length buffer) e hi → IsKey k → InRange e.pivot hi k → Has keys k → IfSome (asks e hi keys.lo keys.hi) Finds
+    → AllByRecursion (λ (m : Message). CanTouch m keys.lo keys.hi → Removes m) buffer → edge_at below e buffer k ≡ None
+edge_nothing below Finds e hi buffer keys k none own key range has finds puts =
+    ap (λ (v : Option (List ℕ)). acts below (drop e.seen buffer) k v) (child_nothing below Finds (length buffer) e hi keys k e.child none own key range has finds refl)
+    ∙ all_put_none below (drop e.seen buffer) keys k (puts_drop (λ (m : Message). CanTouch m keys.lo keys.hi → Removes m) e.seen buffer puts) has
+
+node_nothing : (below : NodesAt) (Finds : Ask → Type 0) (n : Node) (keys : Range) (k : List ℕ) → ((ask : Ask) (l : List ℕ) → Finds ask → Has ask.keys l → below ask.child l ≡ None) → IsShape n → IsKey k → Has keys k → PutsNothing n keys → EachEdge (λ (e : Edge) end. IfSome (asks e end keys.lo keys.hi) Finds) (edges_of n)
+    → node_at below n k ≡ None
+node_nothing below Finds (Leaf entries) keys k none shape key has puts finds = entries_nothing keys entries k puts has
+node_nothing below Finds (Inner level es buffer) keys k none shape key has puts finds =
+    some_has (node_at below (Inner level es buffer) k ≡ None)
+    (λ (e : Edge) hi. (edge_of es k ≡ Some e) × InRange e.pivot hi k × (IsEdge (length buffer) e hi × IfSome (asks e hi keys.lo keys.hi) Finds))
+    (λ e hi found. ap (λ (o : Option Edge). through below o buffer k) found.0 ∙ edge_nothing below Finds e hi buffer keys k none found.2.0 key found.1 has found.2.1 puts)
+    es
+    (some_edge (λ (e : Edge) hi. IsEdge (length buffer) e hi × IfSome (asks e hi keys.lo keys.hi) Finds) es k
+    (each_both (IsEdge (length buffer)) (λ (e : Edge) end. IfSome (asks e end keys.lo keys.hi) Finds) es shape.each finds) shape.first)
+
+has_nothing : (below : NodesAt) (Finds : Ask → Type 0) (n : Node) (keys : Range) (k : List ℕ) → ((ask : Ask) (l : List ℕ) → Finds ask → Has ask.keys l → below ask.child l ≡ None) → IsShape n → Has keys k → PutsNothing n keys → EachEdge (λ (e : Edge) end. IfSome (asks e end keys.lo keys.hi) Finds) (edges_of n)
+    → node_has below n k ≡ None
+has_nothing below Finds n keys k none shape has puts finds =
     elim (cases_Bool (is_key k)) [
-      | inl key ↦ cond-true (is_key k) (node_at below n k) None key ∙ node_nothing below n e hi k nothing asked
+      | inl key ↦ cond-true (is_key k) (node_at below n k) None key ∙ node_nothing below Finds n keys k none shape (key-is_key k key) has puts finds
       | inr other ↦ cond-false (is_key k) (node_at below n k) None other
     ]
 
--- ---- what the edge asks for
-
-front_taken : (s r : List ℕ) → take (length s) (s ++ r) ≡ s
-front_taken [] r = refl
-front_taken (x ∷ s) r = ap (λ (l : List ℕ). x ∷ l) (front_taken s r)
-
-front_dropped : (s r : List ℕ) → drop (length s) (s ++ r) ≡ r
-front_dropped [] r = refl
-front_dropped (x ∷ s) r = front_dropped s r
-
--- the key is what the edge's keys have in common, and then the rest of it
-whole_key : (count : ℕ) (e : Edge) (hi : Option (List ℕ)) (k : List ℕ) → IsEdge count e hi → IsKey k → InRange e.pivot hi k → take e.lift e.pivot ++ drop e.lift k ≡ k
-whole_key count e hi k own key range =
-    let begun : take (length (take e.lift e.pivot)) k ≡ take e.lift e.pivot = own.common k key range in
-    let same : take e.lift k ≡ take e.lift e.pivot = ap (λ (i : ℕ). take i k) (sym (length-take-le e.lift e.pivot own.lift)) ∙ begun in
-    ap (λ (l : List ℕ). l ++ drop e.lift k) (sym same) ∙ take-append-drop e.lift k
-
-asked_for : (count : ℕ) (e : Edge) (hi : Option (List ℕ)) (k : List ℕ) → IsEdge count e hi → IsKey k → InRange e.pivot hi k → IsAsked e hi (e.source ++ drop e.lift k)
-asked_for count e hi k own key range = record {
-  begins = front_taken e.source (drop e.lift k);
-  within = subst (λ (l : List ℕ). InRange e.pivot hi l)
-      (sym (ap (λ (l : List ℕ). take e.lift e.pivot ++ l) (front_dropped e.source (drop e.lift k)) ∙ whole_key count e hi k own key range)) range;
-}
+-- a child that has nothing at the keys that it is asked for has nothing at each of them
+pub asked_nothing : (nodes : Nodes) (t : Table) (depth : ℕ) (ask : Ask) (k : List ℕ) → IsSound nodes t → HasNothing nodes depth ask → Has ask.keys k → meaning nodes ask.child k ≡ None
+asked_nothing nodes t zero ask k sound nothing has = absurd (no_depth nodes ask nothing)
+asked_nothing nodes t (suc depth) ask k sound nothing has =
+    let h : FindsNothing nodes (HasNothing nodes depth) ask = finds nodes depth ask nothing in
+    (at-meets nodes (sound-levelled nodes t sound)).each ask.child h.node h.there k
+    ∙ has_nothing (meaning nodes) (HasNothing nodes depth) h.node ask.keys k (λ a l. asked_nothing nodes t depth a l sound) (node_of nodes t sound ask.child h.node h.there).shape has h.own h.below
 
 way_nothing : (nodes : Nodes) (t : Table) (count : ℕ) (e : Edge) (hi : Option (List ℕ)) (k : List ℕ) → IsSound nodes t → IsBareWay nodes e hi → IsEdge count e hi → IsKey k → InRange e.pivot hi k → child_at (meaning nodes) e.child (e.source ++ drop e.lift k) ≡ None
 way_nothing nodes t count e hi k sound b own key range =
-    let l : List ℕ = e.source ++ drop e.lift k in
-    ap (λ (o : Option ℕ). child_at (meaning nodes) o l) b.child_is
-    ∙ (at-meets nodes (sound-levelled nodes t sound)).each b.child b.node b.there l
-    ∙ has_nothing (meaning nodes) b.node e hi l b.nothing (asked_for count e hi k own key range)
-
--- ---- as it is tested
-
-pub not_asked : (e : Edge) (hi : Option (List ℕ)) (key : List ℕ) (starts : Bool) → IsTrue starts ↔ Begins key e.source → starts ≡ false → IsTrue false ↔ IsAsked e hi key
-not_asked e hi key starts begins off = (
-  (λ never. absurd (not_both never refl)),
-  (λ asked. absurd (not_both (begins.1 asked.begins) off)),
-)
-
-pub source_within : (key source : List ℕ) → Begins key source → length source ≤ length key
-source_within key source begun = omega (arith, ap (λ (l : List ℕ). length l) begun, length-take (length source) key)
+    child_nothing (meaning nodes) (HasNothing nodes look_limit) count e hi (record { lo = []; hi = None }) k e.child (λ a l. asked_nothing nodes t look_limit a l sound) own key range (not_below_nil k, tt)
+    (subst (λ (o : Option Ask). IfSome o (HasNothing nodes look_limit)) (sym b.asked) b.nothing) refl
 
 -- ---- a node's edges, as they are looked at
 

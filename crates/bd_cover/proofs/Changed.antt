@@ -114,28 +114,48 @@ pub record IsChangedTo (nodes : Nodes) (node : Fetched) (made : Node) (new : Nod
   pub there : new node.id ≡ Some made
   pub rest : (id : ℕ) → IsKept u id → (id ≡ node.id → ⊥) → new id ≡ nodes id
 
+-- less is left to change at one node, and each other one that stays is what it was
+pub record IsLessAt (nodes : Nodes) (t : Table) (id : ℕ) (new : Nodes) (u : Table) : Type 0 where
+  pub low : id < t.next
+  pub less : left_in (new id) < left_in (nodes id)
+  pub rest : (x : ℕ) → IsKept u x → (x ≡ id → ⊥) → new x ≡ nodes x
+  pub sound : IsSound new u
+  pub next : u.next ≡ t.next
+  pub level : u.level u.root ≡ t.level t.root
+
 -- no node has more left to change
-each_less : (nodes : Nodes) (t : Table) (node : Fetched) (made : Node) (step : Step) (new : Nodes) (u : Table) → IsMade nodes t node made step new u → left_in (new node.id) < left_in (nodes node.id) → (id : ℕ) → left_in (new id) ≤ left_in (nodes id)
-each_less nodes t node made step new u m here id =
-    elim (cases_eq (u.count id) 0) [
-      | inl gone ↦ (let none : left_in (new id) ≡ 0 = ap left_in (m.committed.sound.others id gone) in omega arith)
-      | inr kept ↦ elim (cases_eq id node.id) [
-        | inl same ↦ subst (λ (i : ℕ). left_in (new i) ≤ left_in (nodes i)) (sym same) (omega arith)
-        | inr other ↦ (let is : left_in (new id) ≡ left_in (nodes id) = ap left_in (rest_same nodes t node made step new u m id (omega arith) other) in omega arith)
+each_less : (nodes : Nodes) (t : Table) (id : ℕ) (new : Nodes) (u : Table) → IsLessAt nodes t id new u → (x : ℕ) → left_in (new x) ≤ left_in (nodes x)
+each_less nodes t id new u h x =
+    elim (cases_eq (u.count x) 0) [
+      | inl gone ↦ (let none : left_in (new x) ≡ 0 = ap left_in (h.sound.others x gone) in omega arith)
+      | inr kept ↦ elim (cases_eq x id) [
+        | inl same ↦ (let less : left_in (new id) < left_in (nodes id) = h.less in subst (λ (i : ℕ). left_in (new i) ≤ left_in (nodes i)) (sym same) (omega arith))
+        | inr other ↦ (let is : left_in (new x) ≡ left_in (nodes x) = ap left_in (h.rest x (omega arith) other) in omega arith)
       ]
     ]
+
+pub all_falls : (nodes : Nodes) (t : Table) (id : ℕ) (new : Nodes) (u : Table) → IsLessAt nodes t id new u → left_over new u < left_over nodes t
+all_falls nodes t id new u h =
+    let sums : sum_below t.next (λ x. left_in (new x)) < sum_below t.next (λ x. left_in (nodes x)) =
+    sum_falls t.next (λ x. left_in (nodes x)) (λ x. left_in (new x)) id h.low h.less (λ x low. each_less nodes t id new u h x) in
+    let next : sum_below u.next (λ x. left_in (new x)) ≡ sum_below t.next (λ x. left_in (new x)) = ap (λ (i : ℕ). sum_below i (λ x. left_in (new x))) h.next in
+    let level : u.level u.root ≡ t.level t.root = h.level in
+    omega (arith, sums, next, level)
 
 falls : (nodes : Nodes) (t : Table) (node : Fetched) (made : Node) (step : Step) (new : Nodes) (u : Table) → IsMade nodes t node made step new u → left_over new u < left_over nodes t
 falls nodes t node made step new u m =
     let less : left_at made < left_at node.node.value = m.change.less in
     let was : left_in (nodes node.id) ≡ left_at node.node.value = ap left_in m.own.there in
     let is : left_in (new node.id) ≡ left_at made = ap left_in (node_there nodes t node made step new u m) in
-    let here : left_in (new node.id) < left_in (nodes node.id) = omega (arith, less, was, is) in
-    let sums : sum_below t.next (λ id. left_in (new id)) < sum_below t.next (λ id. left_in (nodes id)) =
-    sum_falls t.next (λ id. left_in (nodes id)) (λ id. left_in (new id)) node.id (m.change.table.below node.id m.change.fetched.kept) here (λ id low. each_less nodes t node made step new u m here id) in
-    let next : sum_below u.next (λ id. left_in (new id)) ≡ sum_below t.next (λ id. left_in (new id)) = ap (λ (i : ℕ). sum_below i (λ id. left_in (new id))) (same_next t node made step u m.change m.after) in
-    let level : u.level u.root ≡ t.level t.root = (no_higher t node made step u m.change m.after).level in
-    omega (arith, sums, next, level)
+    all_falls nodes t node.id new u
+    (record {
+      low = m.change.table.below node.id m.change.fetched.kept;
+      less = omega (arith, less, was, is);
+      rest = rest_same nodes t node made step new u m;
+      sound = m.committed.sound;
+      next = same_next t node made step u m.change m.after;
+      level = (no_higher t node made step u m.change m.after).level;
+    })
 
 -- ---- on success
 

@@ -82,7 +82,7 @@ lowered_children mask (e ∷ es) =
     let own : h (lowered mask e) ≡ h e = refl in
     omega (arith, own, sum_by-cons h (lowered mask e) (map (lowered mask) es), sum_by-cons h e es, lowered_children mask es)
 
-one_name : (o : Option ℕ) → length (option_to_list o) ≤ 1
+pub one_name : (o : Option ℕ) → length (option_to_list o) ≤ 1
 one_name None = omega arith
 one_name (Some child) = omega arith
 

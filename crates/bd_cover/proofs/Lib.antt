@@ -1,3 +1,5 @@
+pub mod Asks
+pub mod Nothing
 pub mod Covers
 pub mod Cuts
 pub mod Joins
@@ -9,6 +11,8 @@ pub mod Bared
 pub mod Barings
 pub mod Passed
 pub mod Shrinks
+pub mod Trimmed
+pub mod Trims
 pub mod WaysUp
 pub mod Looks
 pub mod Visits

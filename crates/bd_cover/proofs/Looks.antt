@@ -23,12 +23,13 @@ use Rattle.bd_path.proofs.EdgesAt.{edge_named}
 use Rattle.bd_cover.specs.declared.covering.Cover.{Cover}
 use Rattle.bd_cover.specs.declared.covering.Cover.TheVariants.{Gone, Elsewhere}
 use Rattle.bd_cover.specs.declared.walking.Reclaim.{Reclaim}
-use Rattle.bd_cover.specs.declared.walking.Reclaim.TheVariants.{Shrink, Drop, Redirect, Bare, Push}
+use Rattle.bd_cover.specs.declared.walking.Reclaim.TheVariants.{Shrink, Drop, Redirect, Bare, Trim, Push}
 use Rattle.bd_cover.specs.Bare.{HasChildAt, IsBareAt, HasNoBare}
 use Rattle.bd_cover.specs.Covering.{IsCovered, HasNoCovered, HasCut, HasNoCut, IsFirstCut}
-use Rattle.bd_cover.specs.Walking.{IsWalked, IsUnder, IsThinWay, IsThin, IsNoThinRoot, IsClean, IsFirstAt, HasNone, AreClean, IsDue, IsToDo, IsMadeAt, IsToDoAt, IsWayBetween, IsFoundFrom, IsFoundIn, IsBelow, HasNoneAbove}
+use Rattle.bd_cover.specs.Trimming.{IsWalked, IsTrimAt, HasNoTrim}
+use Rattle.bd_cover.specs.Walking.{IsUnder, IsThinWay, IsThin, IsNoThinRoot, IsClean, IsFirstAt, HasNone, AreClean, IsDue, IsToDo, IsMadeAt, IsToDoAt, IsWayBetween, IsFoundFrom, IsFoundIn, IsBelow, HasNoneAbove}
 use Rattle.bd_cover.specs.Walking.IsUnder.{itself, through}
-use Rattle.bd_cover.specs.Walking.IsDue.{here, bare, below}
+use Rattle.bd_cover.specs.Walking.IsDue.{here, trim, bare, below}
 use Rattle.bd_cover.specs.Walking.IsWayBetween.{at_top}
 use Rattle.bd_cover.proofs.WaysUp.{way_longer, way_up, way_own, contents_more}
 
@@ -87,6 +88,7 @@ to_do_first pushes t f (Drop node place at) fetched first none =
 to_do_first pushes t f (Redirect node place at) fetched first none =
     (subst (λ (x : Fetched). IsFetched t x) (sym first.0) fetched, subst (λ (x : Fetched). IsCovered Elsewhere x.node.value place at) (sym first.0) first.3.covered)
 to_do_first pushes t f (Bare node place) fetched first none = absurd first
+to_do_first pushes t f (Trim node place) fetched first none = absurd first
 to_do_first pushes t f (Push above node place) fetched first none = (
   subst (λ (x : Fetched). IsFetched t x) (sym first.0) fetched,
   subst (λ (x : Fetched). HasCut x.node.value place) (sym first.0) first.5.cut,
@@ -101,6 +103,7 @@ found_in_here nodes (Shrink child) none = tt
 found_in_here nodes (Drop node place at) none = tt
 found_in_here nodes (Redirect node place at) none = tt
 found_in_here nodes (Bare node place) none = tt
+found_in_here nodes (Trim node place) none = tt
 found_in_here nodes (Push above node place) none = subst (λ (l : List Fetched). AllByRecursion (IsContents nodes) (reverse l)) (sym none) tt
 
 there_here : (pushes : Bool) (nodes : Nodes) (t : Table) (f : Fetched) (step : Reclaim) → nodes f.id ≡ Some f.node.value → IsPrivate nodes t f.id → IsFirstAt pushes t f step → IsMadeAt nodes t step
@@ -108,12 +111,14 @@ there_here pushes nodes t f (Shrink child) there private first = (f.node.value, 
 there_here pushes nodes t f (Drop node place at) there private first = subst (λ (x : Fetched). IsOwn nodes t x) (sym first.0) (record { private = private; there = there })
 there_here pushes nodes t f (Redirect node place at) there private first = subst (λ (x : Fetched). IsOwn nodes t x) (sym first.0) (record { private = private; there = there })
 there_here pushes nodes t f (Bare node place) there private first = absurd first
+there_here pushes nodes t f (Trim node place) there private first = absurd first
 there_here pushes nodes t f (Push above node place) there private first = subst (λ (x : Fetched). IsOwn nodes t x) (sym first.0) (record { private = private; there = there })
 
 there_below : (pushes : Bool) (nodes : Nodes) (t : Table) (step : Reclaim) (id : ℕ) → IsSound nodes t → IsPrivate nodes t id → IsDue pushes nodes t step id → IsMadeAt nodes t step
 there_below pushes nodes t step id sound private (here f there first) = there_here pushes nodes t f step there private first
-there_below pushes nodes t step id sound private (bare f place there clean at_place is) = subst (λ (s : Reclaim). IsMadeAt nodes t s) (sym is) (record { private = private; there = there }, at_place)
-there_below pushes nodes t step id sound private (below _ place c n e there clean at_place walked due) =
+there_below pushes nodes t step id sound private (trim f place there clean at_place is) = subst (λ (s : Reclaim). IsMadeAt nodes t s) (sym is) (record { private = private; there = there }, at_place)
+there_below pushes nodes t step id sound private (bare f place there clean no_trim at_place is) = subst (λ (s : Reclaim). IsMadeAt nodes t s) (sym is) (record { private = private; there = there }, at_place)
+there_below pushes nodes t step id sound private (below _ place c n e there clean no_trim at_place walked due) =
     there_below pushes nodes t step c sound
     (alone id c n private there (edge_named n place c e (node_of nodes t sound id n there).shape (record { here = at_place; child_is = walked.child_is })) walked.once) due
 
@@ -123,14 +128,14 @@ there_below pushes nodes t step id sound private (below _ place c n e there clea
 abbrev pub HasNoneBefore : Bool → Nodes → Table → List Edge → ℕ → Type 0
 HasNoneBefore pushes nodes t edges place = (i c : ℕ) (e : Edge) → i < place → slice_get edges i ≡ Some e → IsWalked t e c → HasNone pushes nodes t c
 
-none_under : (pushes : Bool) (nodes : Nodes) (t : Table) (x from : ℕ) → IsUnder nodes t x from → (n : Node) → nodes from ≡ Some n → IsClean pushes t from n → HasNoBare nodes n → HasNoneBefore pushes nodes t (edges_of n) (length (edges_of n)) → (m : Node) → nodes x ≡ Some m → IsClean pushes t x m × HasNoBare nodes m
-none_under pushes nodes t x from itself n there clean no_bare before m at_x = subst (λ (k : Node). IsClean pushes t x k × HasNoBare nodes k) (same_Some n m (sym there ∙ at_x)) (clean, no_bare)
-none_under pushes nodes t x from (through _ place c k e at_from at_place walked rest) n there clean no_bare before m at_x =
+none_under : (pushes : Bool) (nodes : Nodes) (t : Table) (x from : ℕ) → IsUnder nodes t x from → (n : Node) → nodes from ≡ Some n → IsClean pushes t from n → HasNoTrim nodes t n → HasNoBare nodes n → HasNoneBefore pushes nodes t (edges_of n) (length (edges_of n)) → (m : Node) → nodes x ≡ Some m → IsClean pushes t x m × HasNoTrim nodes t m × HasNoBare nodes m
+none_under pushes nodes t x from itself n there clean no_trim no_bare before m at_x = subst (λ (k : Node). IsClean pushes t x k × HasNoTrim nodes t k × HasNoBare nodes k) (same_Some n m (sym there ∙ at_x)) (clean, no_trim, no_bare)
+none_under pushes nodes t x from (through _ place c k e at_from at_place walked rest) n there clean no_trim no_bare before m at_x =
     let own : IsEdgeAt n place e = subst (λ (i : Node). IsEdgeAt i place e) (same_Some k n (sym at_from ∙ there)) at_place in
     before place c e (edge_within n place e own) own walked x m rest at_x
 
-none_from : (pushes : Bool) (nodes : Nodes) (t : Table) (id : ℕ) (n : Node) → nodes id ≡ Some n → IsClean pushes t id n → HasNoBare nodes n → HasNoneBefore pushes nodes t (edges_of n) (length (edges_of n)) → HasNone pushes nodes t id
-none_from pushes nodes t id n there clean no_bare before x m under at_x = none_under pushes nodes t x id under n there clean no_bare before m at_x
+none_from : (pushes : Bool) (nodes : Nodes) (t : Table) (id : ℕ) (n : Node) → nodes id ≡ Some n → IsClean pushes t id n → HasNoTrim nodes t n → HasNoBare nodes n → HasNoneBefore pushes nodes t (edges_of n) (length (edges_of n)) → HasNone pushes nodes t id
+none_from pushes nodes t id n there clean no_trim no_bare before x m under at_x = none_under pushes nodes t x id under n there clean no_trim no_bare before m at_x
 
 pub none_past : (pushes : Bool) (nodes : Nodes) (t : Table) (edges : List Edge) (place : ℕ) (e : Edge) → HasNoneBefore pushes nodes t edges place → slice_get edges place ≡ Some e → ((c : ℕ) → IsWalked t e c → HasNone pushes nodes t c) → HasNoneBefore pushes nodes t edges (place + 1)
 none_past pushes nodes t edges place e before at_place none i c f low at_i walked =
@@ -148,13 +153,25 @@ none_of_child pushes nodes t e child walked none c other = subst (λ (i : ℕ). 
 pub due_here : (pushes : Bool) (nodes : Nodes) (t : Table) (step : Reclaim) (id : ℕ) (f : Fetched) → f.id ≡ id → nodes id ≡ Some f.node.value → IsFirstAt pushes t f step → IsDue pushes nodes t step id
 due_here pushes nodes t step id f same there first = subst (λ (i : ℕ). IsDue pushes nodes t step i) same (here f (ap nodes same ∙ there) first)
 
-pub due_bare : (pushes : Bool) (nodes same_nodes : Nodes) (t : Table) (id : ℕ) (f clean : Fetched) (place : ℕ) → f.id ≡ id → nodes id ≡ Some f.node.value → clean ≡ f → same_nodes ≡ nodes → IsClean pushes t f.id f.node.value → IsBareAt same_nodes clean.node.value place → IsDue pushes nodes t (Bare clean place) id
-due_bare pushes nodes same_nodes t id f clean place same there same_f e_nodes is_clean at_place =
+pub due_trim : (pushes : Bool) (nodes same_nodes : Nodes) (t same_t : Table) (id : ℕ) (f clean : Fetched) (place : ℕ) → f.id ≡ id → nodes id ≡ Some f.node.value → clean ≡ f → same_nodes ≡ nodes → same_t ≡ t → IsClean pushes t f.id f.node.value → IsTrimAt same_nodes same_t clean.node.value place → IsDue pushes nodes t (Trim clean place) id
+due_trim pushes nodes same_nodes t same_t id f clean place same there same_f e_nodes e_t is_clean at_place =
+    subst (λ (i : ℕ). IsDue pushes nodes t (Trim clean place) i) same
+    (trim f place (ap nodes same ∙ there) is_clean (subst (λ (x : Fetched). IsTrimAt nodes t x.node.value place) same_f (subst (λ (u : Table). IsTrimAt nodes u clean.node.value place) e_t (subst (λ (m : Nodes). IsTrimAt m same_t clean.node.value place) e_nodes at_place))) (ap (λ (x : Fetched). Trim x place) same_f))
+
+pub no_trim_back : (nodes same_nodes : Nodes) (t same_t : Table) (f clean : Fetched) → same_nodes ≡ nodes → same_t ≡ t → clean ≡ f → HasNoTrim same_nodes same_t clean.node.value → HasNoTrim nodes t f.node.value
+no_trim_back nodes same_nodes t same_t f clean e_nodes e_t same none =
+    subst (λ (x : Fetched). HasNoTrim nodes t x.node.value) same (subst (λ (u : Table). HasNoTrim nodes u clean.node.value) e_t (subst (λ (m : Nodes). HasNoTrim m same_t clean.node.value) e_nodes none))
+
+pub due_bare : (pushes : Bool) (nodes same_nodes : Nodes) (t : Table) (id : ℕ) (f clean : Fetched) (place : ℕ) → f.id ≡ id → nodes id ≡ Some f.node.value → clean ≡ f → same_nodes ≡ nodes → IsClean pushes t f.id f.node.value → HasNoTrim nodes t f.node.value → IsBareAt same_nodes clean.node.value place → IsDue pushes nodes t (Bare clean place) id
+due_bare pushes nodes same_nodes t id f clean place same there same_f e_nodes is_clean no_trim at_place =
     subst (λ (i : ℕ). IsDue pushes nodes t (Bare clean place) i) same
-    (bare f place (ap nodes same ∙ there) is_clean (subst (λ (x : Fetched). IsBareAt nodes x.node.value place) same_f (subst (λ (m : Nodes). IsBareAt m clean.node.value place) e_nodes at_place)) (ap (λ (x : Fetched). Bare x place) same_f))
+    (bare f place (ap nodes same ∙ there) is_clean no_trim (subst (λ (x : Fetched). IsBareAt nodes x.node.value place) same_f (subst (λ (m : Nodes). IsBareAt m clean.node.value place) e_nodes at_place)) (ap (λ (x : Fetched). Bare x place) same_f))
 
 pub bare_to_do : (t : Table) (id : ℕ) (f clean : Fetched) (place : ℕ) → IsFetched t f → clean ≡ f → HasChildAt clean.node.value place → IsFoundFrom t id (Bare clean place)
 bare_to_do t id f clean place fetched same child = (subst (λ (x : Fetched). IsFetched t x) (sym same) fetched, child)
+
+pub trim_to_do : (t : Table) (id : ℕ) (f clean : Fetched) (place : ℕ) → IsFetched t f → clean ≡ f → HasChildAt clean.node.value place → IsFoundFrom t id (Trim clean place)
+trim_to_do t id f clean place fetched same child = (subst (λ (x : Fetched). IsFetched t x) (sym same) fetched, child)
 
 pub clean_fetched : (t same_t : Table) (f clean : Fetched) → same_t ≡ t → clean ≡ f → IsFetched t f → IsFetched same_t clean
 clean_fetched t same_t f clean e_t same fetched = subst (λ (x : Fetched). IsFetched same_t x) (sym same) (subst (λ (u : Table). IsFetched u f) (sym e_t) fetched)
@@ -184,14 +201,14 @@ pub edge_lower : (t : Table) (f clean : Fetched) (shown : Node) (es : List Edge)
 edge_lower t f clean shown es place e h c child = child_lower t f place e c h.fetched (edge_at t f clean shown es place e h) child
 
 pub due_below : (pushes : Bool) (nodes : Nodes) (t : Table) (step : Reclaim) (id : ℕ) (f clean : Fetched) (shown : Node) (es : List Edge) (place : ℕ) (e : Edge) (c : ℕ) → IsAtEdge t f clean shown es place e → f.id ≡ id → nodes id ≡ Some f.node.value → IsClean pushes t f.id f.node.value
-    → IsWalked t e c → IsDue pushes nodes t step c → IsDue pushes nodes t step id
-due_below pushes nodes t step id f clean shown es place e c h same there is_clean walked due =
-    below id place c f.node.value e there (subst (λ (i : ℕ). IsClean pushes t i f.node.value) same is_clean) (edge_at t f clean shown es place e h) walked due
+    → HasNoTrim nodes t f.node.value → IsWalked t e c → IsDue pushes nodes t step c → IsDue pushes nodes t step id
+due_below pushes nodes t step id f clean shown es place e c h same there is_clean no_trim walked due =
+    below id place c f.node.value e there (subst (λ (i : ℕ). IsClean pushes t i f.node.value) same is_clean) no_trim (edge_at t f clean shown es place e h) walked due
 
-pub none_at_end : (pushes : Bool) (nodes same_nodes : Nodes) (t : Table) (id : ℕ) (f clean : Fetched) (shown : Node) (es : List Edge) (place : ℕ) → clean ≡ f → shown ≡ clean.node.value → es ≡ edges_of shown → f.id ≡ id → nodes id ≡ Some f.node.value → IsClean pushes t f.id f.node.value → same_nodes ≡ nodes
+pub none_at_end : (pushes : Bool) (nodes same_nodes : Nodes) (t : Table) (id : ℕ) (f clean : Fetched) (shown : Node) (es : List Edge) (place : ℕ) → clean ≡ f → shown ≡ clean.node.value → es ≡ edges_of shown → f.id ≡ id → nodes id ≡ Some f.node.value → IsClean pushes t f.id f.node.value → HasNoTrim nodes t f.node.value → same_nodes ≡ nodes
     → HasNoBare same_nodes clean.node.value → length es ≤ place → HasNoneBefore pushes nodes t es place → HasNone pushes nodes t id
-none_at_end pushes nodes same_nodes t id f clean shown es place same shown_is edges same_id there is_clean e_nodes no_bare long before =
-    none_from pushes nodes t id f.node.value there (subst (λ (i : ℕ). IsClean pushes t i f.node.value) same_id is_clean)
+none_at_end pushes nodes same_nodes t id f clean shown es place same shown_is edges same_id there is_clean no_trim e_nodes no_bare long before =
+    none_from pushes nodes t id f.node.value there (subst (λ (i : ℕ). IsClean pushes t i f.node.value) same_id is_clean) no_trim
     (subst (λ (x : Fetched). HasNoBare nodes x.node.value) same (subst (λ (m : Nodes). HasNoBare m clean.node.value) e_nodes no_bare))
     (subst (λ (l : List Edge). HasNoneBefore pushes nodes t l (length l)) (edges_are f clean shown es same shown_is edges)
     (λ i c e low at_i walked. before i c e (omega arith) at_i walked))
@@ -203,20 +220,23 @@ at_below pushes t f g (Shrink child) found is first = subst (λ (s : Reclaim). I
 at_below pushes t f g (Drop node place at) found is first = subst (λ (s : Reclaim). IsFirstAt pushes t f s) (sym is) first
 at_below pushes t f g (Redirect node place at) found is first = subst (λ (s : Reclaim). IsFirstAt pushes t f s) (sym is) first
 at_below pushes t f g (Bare node place) found is first = subst (λ (s : Reclaim). IsFirstAt pushes t f s) (sym is) first
+at_below pushes t f g (Trim node place) found is first = subst (λ (s : Reclaim). IsFirstAt pushes t f s) (sym is) first
 at_below pushes t f g (Push above node place) found is first = subst (λ (s : Reclaim). IsFirstAt pushes t f s) (sym is) first
 
 -- the nodes above don't tell which change is due
 pub due_found : (pushes : Bool) (nodes : Nodes) (t : Table) (g : Fetched) (step found : Reclaim) (id : ℕ) → IsBelow g step found → IsDue pushes nodes t step id → IsDue pushes nodes t found id
 due_found pushes nodes t g step found id is (here f there first) = here f there (at_below pushes t f g step found is first)
-due_found pushes nodes t g step found id is (bare f place there clean at_place own) = bare f place there clean at_place (subst (λ (s : Reclaim). IsBelow g s found) own is)
-due_found pushes nodes t g step found id is (below _ place c n e there clean at_place walked due) =
-    below id place c n e there clean at_place walked (due_found pushes nodes t g step found c is due)
+due_found pushes nodes t g step found id is (trim f place there clean at_place own) = trim f place there clean at_place (subst (λ (s : Reclaim). IsBelow g s found) own is)
+due_found pushes nodes t g step found id is (bare f place there clean no_trim at_place own) = bare f place there clean no_trim at_place (subst (λ (s : Reclaim). IsBelow g s found) own is)
+due_found pushes nodes t g step found id is (below _ place c n e there clean no_trim at_place walked due) =
+    below id place c n e there clean no_trim at_place walked (due_found pushes nodes t g step found c is due)
 
 pub found_below : (t : Table) (f : Fetched) (place : ℕ) (e : Edge) (c : ℕ) (step found : Reclaim) → IsFetched t f → IsEdgeAt f.node.value place e → IsWalked t e c → IsFoundFrom t c step → IsBelow f step found → IsFoundFrom t f.id found
 found_below t f place e c (Shrink child) found fetched asks walked h is = subst (λ (s : Reclaim). IsFoundFrom t f.id s) (sym is) h
 found_below t f place e c (Drop node i at) found fetched asks walked h is = subst (λ (s : Reclaim). IsFoundFrom t f.id s) (sym is) h
 found_below t f place e c (Redirect node i at) found fetched asks walked h is = subst (λ (s : Reclaim). IsFoundFrom t f.id s) (sym is) h
 found_below t f place e c (Bare node i) found fetched asks walked h is = subst (λ (s : Reclaim). IsFoundFrom t f.id s) (sym is) h
+found_below t f place e c (Trim node i) found fetched asks walked h is = subst (λ (s : Reclaim). IsFoundFrom t f.id s) (sym is) h
 found_below t f place e c (Push above node i) found fetched asks walked h is =
     subst (λ (s : Reclaim). IsFoundFrom t f.id s) (sym is) (
       h.0,
@@ -230,6 +250,7 @@ found_in_below nodes f (Shrink child) found there h is = subst (λ (s : Reclaim)
 found_in_below nodes f (Drop node place at) found there h is = subst (λ (s : Reclaim). IsFoundIn nodes s) (sym is) h
 found_in_below nodes f (Redirect node place at) found there h is = subst (λ (s : Reclaim). IsFoundIn nodes s) (sym is) h
 found_in_below nodes f (Bare node place) found there h is = subst (λ (s : Reclaim). IsFoundIn nodes s) (sym is) h
+found_in_below nodes f (Trim node place) found there h is = subst (λ (s : Reclaim). IsFoundIn nodes s) (sym is) h
 found_in_below nodes f (Push above node place) found there h is =
     subst (λ (s : Reclaim). IsFoundIn nodes s) (sym is)
     (subst (λ (l : List Fetched). AllByRecursion (IsContents nodes) l) (sym (reverse-append (f ∷ []) above)) (contents_more nodes (reverse above) f h there))
@@ -282,6 +303,7 @@ found_to_do t (Shrink child) h = h
 found_to_do t (Drop node place at) h = h
 found_to_do t (Redirect node place at) h = h
 found_to_do t (Bare node place) h = h
+found_to_do t (Trim node place) h = h
 found_to_do t (Push above node place) h = (h.0, h.1, way_up t node.id (reverse above) h.2)
 
 pub walk_to_do : {E : Type 0} (t u : Table) (root : ℕ) (r : Result (Option Reclaim) E) → u ≡ t → root ≡ t.root → IfOk r (λ found. IfSome found (IsFoundFrom u root)) → IfOk r (λ found. IfSome found (IsToDo t))
@@ -294,6 +316,7 @@ to_do_in nodes t (Shrink child) sound there to contents = (there, tt)
 to_do_in nodes t (Drop node place at) sound there to contents = (there, tt)
 to_do_in nodes t (Redirect node place at) sound there to contents = (there, tt)
 to_do_in nodes t (Bare node place) sound there to contents = (there, tt)
+to_do_in nodes t (Trim node place) sound there to contents = (there, tt)
 to_do_in nodes t (Push above node place) sound there to contents = (there, way_own nodes t node.id (reverse above) sound to.2 contents)
 
 pub one_at : (pushes : Bool) (nodes : Nodes) (t : Table) (root : ℕ) (step : Reclaim) → root ≡ t.root → IsSound nodes t → IsDue pushes nodes t step root → IsFoundFrom t root step → IsFoundIn nodes step → IsToDoAt nodes t step

@@ -8,7 +8,7 @@ use Rattle.bd_node.specs.Meaning.{Nodes}
 use Rattle.bd_node.specs.Tables.{Table, IsTable, IsKept, sum_below, kept_count}
 use Rattle.bd_node.proofs.Sums.{sum_exchanged}
 use Rattle.bd_cover.specs.declared.walking.Reclaim.{Reclaim}
-use Rattle.bd_cover.specs.Walking.{HasNone, AreClean, AddsBelow, count_among, node_visits}
+use Rattle.bd_cover.specs.Walking.{HasNone, AreClean, AddsBelow, count_among, first_visits, node_visits}
 use Rattle.bd_cover.proofs.Falls.{sum_no_more}
 
 -- one set is another with a node put to it
@@ -135,18 +135,18 @@ pub lower_id : (t : Table) (id here c : ℕ) → here ≡ id → t.level c < t.l
 lower_id t id here c same lower = subst (λ (i : ℕ). t.level c < t.level i) same lower
 
 pub below_more : (t same_t : Table) (id c : ℕ) (old now then : ℕ → Bool) (first before after : ℕ) → same_t ≡ t → t.level c < t.level id
-    → before + node_visits * count_among t old ≤ first + node_visits * count_among t now + 1
-    → after + node_visits * count_among same_t now ≤ before + node_visits * count_among same_t then + same_t.level c + node_visits
-    → after + node_visits * count_among t old ≤ first + node_visits * count_among t then + t.level id + node_visits
+    → before + node_visits * count_among t old ≤ first + node_visits * count_among t now + first_visits
+    → after + node_visits * count_among same_t now ≤ before + node_visits * count_among same_t then + first_visits * same_t.level c + node_visits
+    → after + node_visits * count_among t old ≤ first + node_visits * count_among t then + first_visits * t.level id + node_visits
 below_more t same_t id c old now then first before after same lower own more =
-    let here : after + node_visits * count_among t now ≤ before + node_visits * count_among t then + t.level c + node_visits =
-    subst (λ (u : Table). after + node_visits * count_among u now ≤ before + node_visits * count_among u then + u.level c + node_visits) same more in
+    let here : after + node_visits * count_among t now ≤ before + node_visits * count_among t then + first_visits * t.level c + node_visits =
+    subst (λ (u : Table). after + node_visits * count_among u now ≤ before + node_visits * count_among u then + first_visits * u.level c + node_visits) same more in
     omega (arith, own, here, lower)
 
 pub below_once : (t same_t : Table) (found : Option Reclaim) (old now then : ℕ → Bool) (first before after : ℕ) → same_t ≡ t → found ≡ None
-    → before + node_visits * count_among t old ≤ first + node_visits * count_among t now + 1
+    → before + node_visits * count_among t old ≤ first + node_visits * count_among t now + first_visits
     → IfNone found (after + node_visits * count_among same_t now ≤ before + node_visits * count_among same_t then)
-    → after + node_visits * count_among t old ≤ first + node_visits * count_among t then + 1
+    → after + node_visits * count_among t old ≤ first + node_visits * count_among t then + first_visits
 below_once t same_t found old now then first before after same none own once =
     let here : after + node_visits * count_among t now ≤ before + node_visits * count_among t then =
     subst (λ (u : Table). after + node_visits * count_among u now ≤ before + node_visits * count_among u then) same

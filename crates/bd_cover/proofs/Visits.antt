@@ -10,7 +10,9 @@ use Rattle.bd_node.specs.declared.node.Node.{Node}
 use Rattle.bd_node.specs.Meaning.{Nodes}
 use Rattle.bd_node.specs.Tables.{Table, kept_count}
 use Rattle.bd_node.specs.Parts.{edges_of}
-use Rattle.bd_cover.specs.Walking.{IsWalked, at_walked, edges_in, walk_size, node_visits, count_among}
+use Rattle.bd_cover.specs.Bare.{look_limit}
+use Rattle.bd_cover.specs.Trimming.{IsWalked}
+use Rattle.bd_cover.specs.Walking.{at_walked, edges_in, walk_size, first_visits, node_visits, count_among}
 use Rattle.bd_cover.proofs.Passed.{count_few}
 
 -- what the walk visits below an edge, if it goes at most so deep
@@ -37,19 +39,19 @@ one_visit nodes t zero id before now few low = absurd (omega arith)
 one_visit nodes t (suc depth) id before now few low = omega (arith, few)
 
 -- below one more edge
-pub more_visits : (nodes : Nodes) (t : Table) (depth : ℕ) (es : List Edge) (place : ℕ) (e : Edge) (before now : ℕ) → place < length es → e ≡ get_or es place e → now ≤ before + 1 + node_visits * walked_before nodes t depth es place → now ≤ before + 1 + node_visits * walked_before nodes t depth es (place + 1)
+pub more_visits : (nodes : Nodes) (t : Table) (depth : ℕ) (es : List Edge) (place : ℕ) (e : Edge) (before now : ℕ) → place < length es → e ≡ get_or es place e → now ≤ before + first_visits + node_visits * walked_before nodes t depth es place → now ≤ before + first_visits + node_visits * walked_before nodes t depth es (place + 1)
 more_visits nodes t depth es place e before now low read few =
     omega (arith, few, sum_by_more (λ (x : Edge). walked_at nodes t depth x) es place e low)
 
 -- and below a child
-pub child_visits : (nodes : Nodes) (t : Table) (depth : ℕ) (es : List Edge) (place : ℕ) (e : Edge) (c before now then : ℕ) → place < length es → e ≡ get_or es place e → IsWalked t e c → now ≤ before + 1 + node_visits * walked_before nodes t depth es place
-    → then ≤ now + node_visits * walk_size nodes t depth c → then ≤ before + 1 + node_visits * walked_before nodes t depth es (place + 1)
+pub child_visits : (nodes : Nodes) (t : Table) (depth : ℕ) (es : List Edge) (place : ℕ) (e : Edge) (c before now then : ℕ) → place < length es → e ≡ get_or es place e → IsWalked t e c → now ≤ before + first_visits + node_visits * walked_before nodes t depth es place
+    → then ≤ now + node_visits * walk_size nodes t depth c → then ≤ before + first_visits + node_visits * walked_before nodes t depth es (place + 1)
 child_visits nodes t depth es place e c before now then low read walked few more =
     let own : walked_at nodes t depth (get_or es place e) ≡ walk_size nodes t depth c = ap (λ (x : Edge). walked_at nodes t depth x) (sym read) ∙ walked_is nodes t depth e c walked in
     omega (arith, few, more, own, sum_by_more (λ (x : Edge). walked_at nodes t depth x) es place e low)
 
 -- all in all, with those of the children that are looked at last
-pub all_visits : (nodes : Nodes) (t : Table) (depth id : ℕ) (n : Node) (es : List Edge) (place before now then : ℕ) → nodes id ≡ Some n → es ≡ edges_of n → t.level id < depth → ((d : ℕ) → t.level id ≤ d → now ≤ before + 1 + node_visits * walked_before nodes t d es place) → then ≤ now + edge_limit
+pub all_visits : (nodes : Nodes) (t : Table) (depth id : ℕ) (n : Node) (es : List Edge) (place before now then : ℕ) → nodes id ≡ Some n → es ≡ edges_of n → t.level id < depth → ((d : ℕ) → t.level id ≤ d → now ≤ before + first_visits + node_visits * walked_before nodes t d es place) → then ≤ now + edge_limit * look_limit
     → then ≤ before + node_visits * walk_size nodes t depth id
 all_visits nodes t zero id n es place before now then there same low few last = absurd (omega arith)
 all_visits nodes t (suc depth) id n es place before now then there same low few last =
@@ -88,15 +90,15 @@ two_sizes nodes mid t u root before now then e_nodes e_t same few more =
     let second : then ≤ now + node_visits * walk_size nodes t d root = same_size nodes mid t u d root now then e_nodes e_t (more d (omega (arith, level, own))) in
     omega (arith, few d (omega (arith, level)), second, size)
 
-pub one_walk : (t : Table) (root : ℕ) (old new : ℕ → Bool) (before now : ℕ) → root ≡ t.root → now + node_visits * count_among t old ≤ before + node_visits * count_among t new + t.level root + node_visits → now ≤ before + 2 * (node_visits * kept_count t) + t.level t.root + node_visits
+pub one_walk : (t : Table) (root : ℕ) (old new : ℕ → Bool) (before now : ℕ) → root ≡ t.root → now + node_visits * count_among t old ≤ before + node_visits * count_among t new + first_visits * t.level root + node_visits → now ≤ before + 2 * (node_visits * kept_count t) + first_visits * t.level t.root + node_visits
 one_walk t root old new before now same few =
     let level : t.level root ≡ t.level t.root = ap t.level same in
     omega (arith, few, level, count_few t new)
 
 pub two_walks : (t u : Table) (root : ℕ) (old mid empty new : ℕ → Bool) (before now then : ℕ) → u ≡ t → root ≡ t.root → now + node_visits * count_among t old ≤ before + node_visits * count_among t mid
-    → then + node_visits * count_among u empty ≤ now + node_visits * count_among u new + u.level root + node_visits → then ≤ before + 2 * (node_visits * kept_count t) + t.level t.root + node_visits
+    → then + node_visits * count_among u empty ≤ now + node_visits * count_among u new + first_visits * u.level root + node_visits → then ≤ before + 2 * (node_visits * kept_count t) + first_visits * t.level t.root + node_visits
 two_walks t u root old mid empty new before now then e_t same first second =
     let level : t.level root ≡ t.level t.root = ap t.level same in
-    let own : then + node_visits * count_among t empty ≤ now + node_visits * count_among t new + t.level root + node_visits =
-    subst (λ (v : Table). then + node_visits * count_among v empty ≤ now + node_visits * count_among v new + v.level root + node_visits) e_t second in
+    let own : then + node_visits * count_among t empty ≤ now + node_visits * count_among t new + first_visits * t.level root + node_visits =
+    subst (λ (v : Table). then + node_visits * count_among v empty ≤ now + node_visits * count_among v new + first_visits * v.level root + node_visits) e_t second in
     omega (arith, first, own, level, count_few t mid, count_few t new)

@@ -1,4 +1,6 @@
+pub mod Asked
 pub mod Bare
 pub mod Covering
+pub mod Trimming
 pub mod Walking
 pub mod Reclaimed

@@ -1,16 +1,19 @@
 -- What a change leaves.
 use Rattle.std.specs.Prelude.{◌≡◌, ℕ, ◌+◌, ◌*◌, ◌≤◌, List, [], length, drop, Option, None, Some, ◌⊎◌, IsTrue}
 use Rattle.std.specs.List.{sum_by}
+use Rattle.bd_node.specs.declared.node.Edge.{Edge}
 use Rattle.bd_node.specs.declared.node.Node.{Node}
 use Rattle.bd_node.specs.declared.node.Step.{Step}
 use Rattle.bd_node.specs.Meaning.{Nodes}
 use Rattle.bd_node.specs.Nodes.{edge_names}
 use Rattle.bd_node.specs.Private.{IsPrivate}
 use Rattle.bd_node.specs.Tables.{Table, IsKept, IsSound, root_at, sum_below}
-use Rattle.bd_node.specs.Parts.{edges_of, buffer_of}
+use Rattle.bd_node.specs.Parts.{edges_of, buffer_of, end_at}
 use Rattle.bd_path.specs.declared.fetching.Fetched.{Fetched}
+use Rattle.bd_path.specs.Fetching.{IsFetched, IsContents, IsEdgeTo}
 use Rattle.bd_path.specs.Flushed.{LeadsTo, IsUntouched}
 use Rattle.bd_path.specs.Paths.{change_step}
+use Rattle.bd_copy.specs.Narrowing.{asked_from, asked_end, IsNarrowed}
 use Rattle.bd_cover.specs.Bare.{IsBared}
 use Rattle.bd_cover.specs.Covering.{IsDecided}
 
@@ -47,6 +50,21 @@ pub record IsBaredAt (nodes : Nodes) (node : Fetched) (place : ℕ) (new : Nodes
     pub there : new node.id ≡ Some made
     pub rest : (id : ℕ) → IsKept u id → ¬ (id ≡ node.id) → new id ≡ nodes id
 
+-- the child of the node's edge at a place has what the edge asks it for, and nothing else, and all
+-- others that stay are what they were
+pub record IsTrimmedAt (nodes : Nodes) (node : Fetched) (place : ℕ) (new : Nodes) (u : Table)
+    : Type 0 where
+  pub edge : Edge
+  pub child : ℕ
+  pub asks : IsEdgeTo node.node.value place child edge
+  pub old : Node
+  pub was : nodes child ≡ Some old
+  pub made : Node
+  pub narrowed :
+      IsNarrowed (asked_from edge) (asked_end edge (end_at node.node.value place)) old made
+  pub there : new child ≡ Some made
+  pub rest : (id : ℕ) → IsKept u id → ¬ (id ≡ child) → new id ≡ nodes id
+
 -- the child is the root, and all nodes that stay are what they were
 pub record IsShrunk (nodes : Nodes) (child : ℕ) (new : Nodes) (u : Table) : Type 0 where
   pub root : u.root ≡ child
@@ -64,6 +82,20 @@ pub record IsBareStep (root : ℕ) (node : Fetched) (place : ℕ) (step : Step) 
   pub made : Node
   pub bared : IsBared node.node.value place made
   pub is : step ≡ change_step root node.id made
+
+-- the step that changes the child of a node's edge at a place to what the edge asks of it; in known
+-- nodes the child is theirs
+pub record IsTrimStep (known : Type 0) (nodes : Nodes) (t : Table) (node : Fetched) (place : ℕ)
+    (step : Step) : Type 0 where
+  pub edge : Edge
+  pub child : Fetched
+  pub asks : IsEdgeTo node.node.value place child.id edge
+  pub fetched : IsFetched t child
+  pub there : known → IsContents nodes child
+  pub made : Node
+  pub narrowed : IsNarrowed (asked_from edge) (asked_end edge (end_at node.node.value place))
+      child.node.value made
+  pub is : step ≡ change_step t.root child.id made
 
 -- the step that makes another node the root, and no other change
 abbrev pub root_only : ℕ → Step

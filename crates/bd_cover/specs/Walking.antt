@@ -1,5 +1,5 @@
 -- The walk that looks for a change, and what it finds.
-use Rattle.std.specs.Prelude.{◌≡◌, ℕ, zero, suc, Bool, IsTrue, ◌⊎◌, ◌+◌, ◌<◌, ◌≤◌, nat_le, nat_lt, ◌==◌, ◌&&◌, if◌then◌else◌, List, [], ◌∷◌, reverse, Option, None, Some, ⊤}
+use Rattle.std.specs.Prelude.{◌≡◌, ℕ, zero, suc, Bool, IsTrue, ◌⊎◌, ◌+◌, ◌*◌, ◌<◌, ◌≤◌, nat_le, nat_lt, ◌==◌, ◌&&◌, if◌then◌else◌, List, [], ◌∷◌, reverse, Option, None, Some, ⊤}
 use Rattle.std.specs.List.{sum_by, AllByRecursion}
 use Rattle.bd_limits.specs.Limits.{edge_limit}
 use Rattle.bd_node.specs.declared.node.Edge.{Edge}
@@ -12,11 +12,12 @@ use Rattle.bd_path.specs.Fetching.{IsFetched, IsContents, IsEdgeTo, IsOwn, AreOw
 use Rattle.bd_path.specs.Raising.{IsWayUp}
 use Rattle.bd_cover.specs.declared.covering.Cover.TheVariants.{Gone, Elsewhere}
 use Rattle.bd_cover.specs.declared.walking.Reclaim.{Reclaim}
-use Rattle.bd_cover.specs.declared.walking.Reclaim.TheVariants.{Shrink, Drop, Redirect, Bare, Push}
+use Rattle.bd_cover.specs.declared.walking.Reclaim.TheVariants.{Shrink, Drop, Redirect, Bare, Trim, Push}
 use Rattle.bd_cover.specs.declared.walking.Look.{Look}
 use Rattle.bd_cover.specs.declared.walking.Look.TheVariants.{Change, Clean}
-use Rattle.bd_cover.specs.Bare.{HasChildAt, IsBareAt, HasNoBare}
+use Rattle.bd_cover.specs.Bare.{look_limit, HasChildAt, IsBareAt, HasNoBare}
 use Rattle.bd_cover.specs.Covering.{IsCovered, HasNoCovered, IsFirstCovered, HasCut, HasNoCut, IsFirstCut}
+use Rattle.bd_cover.specs.Trimming.{IsWalked, IsTrimAt, HasNoTrim}
 
 -- of a push what is said of the nodes above its own, of that one and of the place, and of any other
 -- change what is said of all of them
@@ -25,15 +26,10 @@ IfPush push other (Shrink child) = other
 IfPush push other (Drop node place at) = other
 IfPush push other (Redirect node place at) = other
 IfPush push other (Bare node place) = other
+IfPush push other (Trim node place) = other
 IfPush push other (Push above node place) = push above node place
 
 -- ---- which nodes are looked at
-
--- the walk goes from an edge to its child: an inner node that nothing else names
-pub record IsWalked (t : Table) (e : Edge) (child : ℕ) : Type 0 where
-  pub child_is : e.child ≡ Some child
-  pub once : t.count child ≡ 1
-  pub inner : 1 ≤ t.level child
 
 -- the walk leads from a node to this one
 pub data IsUnder (nodes : Nodes) (t : Table) (last : ℕ) : ℕ → Type 0 where
@@ -57,9 +53,14 @@ walk_size nodes t zero id = 0
 walk_size nodes t (suc depth) id =
     suc (sum_by (λ e. at_walked t (walk_size nodes t depth) e.child) (edges_in (nodes id)))
 
--- how many visits the walk has at a node at most: its own, and one of each edge's child
+-- how many visits the walk has at a node before it goes below it at most: its own, and one of each
+-- edge's child
+abbrev pub first_visits : ℕ
+first_visits = edge_limit + 1
+
+-- how many it has there at most: those, and each edge's looks
 abbrev pub node_visits : ℕ
-node_visits = edge_limit + 1
+node_visits = first_visits + edge_limit * look_limit
 
 -- ---- what is to be changed at a node
 
@@ -99,6 +100,7 @@ IsFirstAt pushes t f (Redirect node place at) =
     (node ≡ f) × IsNoThinRoot t f.id f.node.value × HasNoCovered Gone f.node.value
     × IsFirstCovered Elsewhere f.node.value place at
 IsFirstAt pushes t f (Bare node place) = ⊥
+IsFirstAt pushes t f (Trim node place) = ⊥
 IsFirstAt pushes t f (Push above node place) =
     (node ≡ f) × IsNoThinRoot t f.id f.node.value × HasNoCovered Gone f.node.value
     × HasNoCovered Elsewhere f.node.value × IsTrue pushes × IsFirstCut f.node.value place
@@ -108,7 +110,7 @@ IsFirstAt pushes t f (Push above node place) =
 -- nothing is to be changed at any node to which the walk leads from this one
 abbrev pub HasNone : Bool → Nodes → Table → ℕ → Type 0
 HasNone pushes nodes t from = (id : ℕ) (n : Node) → IsUnder nodes t id from → nodes id ≡ Some n
-    → IsClean pushes t id n × HasNoBare nodes n
+    → IsClean pushes t id n × HasNoTrim nodes t n × HasNoBare nodes n
 
 -- so it is of each node of a set
 abbrev pub AreClean : Bool → Nodes → Table → (ℕ → Bool) → Type 0
@@ -124,17 +126,22 @@ count_among t among =
     sum_below t.next (λ id. if nat_le 1 (t.count id) && among id then 1 else 0)
 
 -- the change is to be made at a node to which the walk leads from this one, where nothing is to be
--- changed at those above it for what they have themselves: the first one for what the node has
--- itself, or an edge of a node that is clean itself loses a child in which nothing stands
+-- changed at those above it for what they have themselves, and no child of theirs has more than its
+-- edge asks for: the first one for what the node has itself; or, of a node that is clean itself, an
+-- edge's child is to have only what the edge asks for; or, where there is no such child either, an
+-- edge loses a child in which nothing stands
 pub data IsDue (pushes : Bool) (nodes : Nodes) (t : Table) (step : Reclaim) : ℕ → Type 0 where
   here : (f : Fetched) → nodes f.id ≡ Some f.node.value → IsFirstAt pushes t f step
       → IsDue pushes nodes t step f.id
+  trim : (f : Fetched) (place : ℕ) → nodes f.id ≡ Some f.node.value
+      → IsClean pushes t f.id f.node.value → IsTrimAt nodes t f.node.value place
+      → step ≡ Trim f place → IsDue pushes nodes t step f.id
   bare : (f : Fetched) (place : ℕ) → nodes f.id ≡ Some f.node.value
-      → IsClean pushes t f.id f.node.value → IsBareAt nodes f.node.value place
-      → step ≡ Bare f place → IsDue pushes nodes t step f.id
+      → IsClean pushes t f.id f.node.value → HasNoTrim nodes t f.node.value
+      → IsBareAt nodes f.node.value place → step ≡ Bare f place → IsDue pushes nodes t step f.id
   below : (id place c : ℕ) (n : Node) (e : Edge) → nodes id ≡ Some n → IsClean pushes t id n
-      → IsEdgeAt n place e → IsWalked t e c → IsDue pushes nodes t step c
-      → IsDue pushes nodes t step id
+      → HasNoTrim nodes t n → IsEdgeAt n place e → IsWalked t e c
+      → IsDue pushes nodes t step c → IsDue pushes nodes t step id
 
 -- ---- changes that may be made
 
@@ -144,16 +151,19 @@ IsToDo t (Shrink child) = IsLower t (t.level t.root) child × (1 ≤ t.level chi
 IsToDo t (Drop node place at) = IsFetched t node × IsCovered Gone node.node.value place at
 IsToDo t (Redirect node place at) = IsFetched t node × IsCovered Elsewhere node.node.value place at
 IsToDo t (Bare node place) = IsFetched t node × HasChildAt node.node.value place
+IsToDo t (Trim node place) = IsFetched t node × HasChildAt node.node.value place
 IsToDo t (Push above node place) =
     IsFetched t node × HasCut node.node.value place × IsWayUp t node.id (reverse above)
 
--- where it is made, in known nodes: at the root, or at a private node; and nothing stands in a child
--- that an edge is to lose
+-- where it is made, in known nodes: at the root, or at a private node or a child of one; nothing
+-- stands in a child that an edge is to lose, and one that is to change has more than its edge asks
+-- for
 abbrev pub IsMadeAt : Nodes → Table → Reclaim → Type 0
 IsMadeAt nodes t (Shrink child) = (n : Node) × (nodes t.root ≡ Some n) × IsThin t n child
 IsMadeAt nodes t (Drop node place at) = IsOwn nodes t node
 IsMadeAt nodes t (Redirect node place at) = IsOwn nodes t node
 IsMadeAt nodes t (Bare node place) = IsOwn nodes t node × IsBareAt nodes node.node.value place
+IsMadeAt nodes t (Trim node place) = IsOwn nodes t node × IsTrimAt nodes t node.node.value place
 IsMadeAt nodes t (Push above node place) = IsOwn nodes t node
 
 -- it may be made there, where those above a push are private too

@@ -18,7 +18,8 @@ use Rattle.bd_super.specs.declared.superblock.Super.{Super}
 use Rattle.bd_log.specs.Batches.{IsLogRecord, AreBatches}
 use Rattle.bd_log.specs.Logs.{LogState, fresh_log}
 use Rattle.bd_pager.specs.Opened.{IsOpened}
-use Rattle.bd_pager.specs.Pagers.{Paged, cache_room, spots_of, nodes_of, table_of, is_known, AreEntriesOf, IsPaged}
+use Rattle.bd_pager.specs.Calling.{read_keeps}
+use Rattle.bd_pager.specs.Pagers.{Paged, cache_room, spots_of, nodes_of, table_of, is_known, AreEntriesOf, IsPaged, IsReadOf}
 use Rattle.bd_image.specs.Versions.{version_of}
 use Rattle.bd_image.specs.Fresh.{first_super, fresh_nodes}
 use Rattle.bd_image.specs.ImageTree.{records_of, HasTree, ImageStandsFor}
@@ -30,6 +31,7 @@ use Rattle.bd_checkpoint.specs.Commands.{records_for, AreCommandsOf}
 use Rattle.bd_checkpoint.specs.declared.commands.PlacedCommand.{PlacedCommand}
 use Rattle.bd_checkpoint.specs.Kept.{slots_held, IsOpenOn, StartsAs}
 use Rattle.bd_checkpoint.specs.Recovering.{saved_of, AreStored}
+use Rattle.bd_checkpoint.proofs.Handed.{IsSince}
 use Rattle.bd_checkpoint.proofs.Starting.{PartsAreOne, recovered}
 use Rattle.bd_view.specs.Trees.{fresh_tree}
 use Rattle.bd_view.specs.Views.{kept_ids, fresh_view}
@@ -39,6 +41,7 @@ use Rattle.bd_recall.specs.Kept.{Findings}
 use Rattle.bd_engine.specs.Engines.{started, view_of, MayStart}
 use Rattle.bd_engine.specs.Stored.{IsStoredView, IsFound, IsStoredBy, ArePlaced}
 use Rattle.bd_engine.proofs.Damage.{no_worse_fresh, no_worse_opened}
+use Rattle.bd_engine.proofs.Left.{kept_standing, read_sound}
 
 -- ---- from an image
 
@@ -56,8 +59,13 @@ opened_standing g known p log live h given idle told stored is room = λ recalle
   no_worse = λ none known_now. no_worse_opened g known live.slots live.table p h told stored (is known_now);
 }
 
+-- reads of its pager leave what may start so
+pub read_standing : {D : Type 0} (g : Ghosts D) (p q : Paged D) (log : LogState) (live : Super) → IsSince g q.dev → IsReadOf g p q → MayStart g p log live → MayStart g q log live
+read_standing g p q log live earlier read may = λ recalled.
+    kept_standing g (started p recalled log live) q recalled (record { visits = 0; height = 0 }) 0 earlier (may recalled) (read_keeps g p q read) (read_sound g p q read)
+
 -- the records of batches are those of their commands
-found_records : (version : ℕ) (batches : List Batch) (list : List PlacedCommand) → AreCommandsOf version (placed_records batches) list → map log_record (map (λ p. p.command) list) ≡ records_of batches
+pub found_records : (version : ℕ) (batches : List Batch) (list : List PlacedCommand) → AreCommandsOf version (placed_records batches) list → map log_record (map (λ p. p.command) list) ≡ records_of batches
 found_records version batches list of = sym (unplaced_commands list) ∙ ap unplaced of.same ∙ records_placed batches
   where
     unplaced_commands : (l : List PlacedCommand) → unplaced (records_for l) ≡ map log_record (map (λ p. p.command) l)

@@ -65,8 +65,8 @@ impl<D: Device> Model for Engine<D> {
 }
 
 impl<D: Device> Engine<D> {
-    // The engine of these parts, which goes on.
-    fn over(alloc: Global, pager: Pager<D>, log: Log, live: Super) -> Engine<D>
+    /// The engine of these parts, which goes on, and of which nothing is known but them.
+    pub fn over(alloc: Global, pager: Pager<D>, log: Log, live: Super) -> Engine<D>
         requires { MayStart D.Device pager log live }
         ensures started { result ≡ started pager result.recalled log live }
         ensures fresh { KeepsNone result.recalled }

@@ -9,9 +9,9 @@ use Rattle.bd_path.specs.Made.{WearsOut}
 use Rattle.bd_step.specs.Beginning.{IsFoundFrom, IsMadeFrom, IsWornFrom}
 use Rattle.bd_step.specs.Steps.{step_visits}
 use Rattle.bd_cover.specs.declared.walking.Reclaim.{Reclaim}
-use Rattle.bd_cover.specs.declared.walking.Reclaim.TheVariants.{Shrink, Drop, Redirect, Bare, Push}
+use Rattle.bd_cover.specs.declared.walking.Reclaim.TheVariants.{Shrink, Drop, Redirect, Bare, Trim, Push}
 use Rattle.bd_cover.specs.Walking.{IfPush}
-use Rattle.bd_cover.specs.Reclaimed.{IsDecidedAt, IsBaredAt, IsShrunk, IsDecideStep, IsBareStep, root_only, left_over}
+use Rattle.bd_cover.specs.Reclaimed.{IsDecidedAt, IsBaredAt, IsTrimmedAt, IsShrunk, IsDecideStep, IsBareStep, IsTrimStep, root_only, left_over}
 
 -- what became of the nodes, by the change
 abbrev pub IsReclaimMade : Nodes → Table → Reclaim → Nodes → Table → Type 0
@@ -19,6 +19,7 @@ IsReclaimMade nodes t (Shrink child) new u = IsShrunk nodes child new u
 IsReclaimMade nodes t (Drop node place at) new u = IsDecidedAt nodes node place at new u
 IsReclaimMade nodes t (Redirect node place at) new u = IsDecidedAt nodes node place at new u
 IsReclaimMade nodes t (Bare node place) new u = IsBaredAt nodes node place new u
+IsReclaimMade nodes t (Trim node place) new u = IsTrimmedAt nodes node place new u
 IsReclaimMade nodes t (Push above node place) new u = IsMadeFrom nodes t above node place new u
 
 -- why a change is refused: a counter has to pass its last value for all that it adds. One that is no
@@ -31,6 +32,8 @@ IsWornChange known nodes t (Redirect node place at) counter =
     WearsOut (IsDecideStep t.root node place at) t counter
 IsWornChange known nodes t (Bare node place) counter =
     WearsOut (IsBareStep t.root node place) t counter
+IsWornChange known nodes t (Trim node place) counter =
+    WearsOut (IsTrimStep known nodes t node place) t counter
 IsWornChange known nodes t (Push above node place) counter =
     IsWornFrom known nodes t above node place counter
 
@@ -40,19 +43,21 @@ IsRootAfter t (Shrink child) u = (u.root ≡ child) × (u.level u.root ≡ t.lev
 IsRootAfter t (Drop node place at) u = IsNoHigher t u
 IsRootAfter t (Redirect node place at) u = IsNoHigher t u
 IsRootAfter t (Bare node place) u = IsNoHigher t u
+IsRootAfter t (Trim node place) u = IsNoHigher t u
 IsRootAfter t (Push above node place) u = IsFoundFrom t above node place u
 
 -- a change makes no nodes, unless it is a push
 abbrev pub IsNextAfter : Table → Reclaim → Table → Type 0
 IsNextAfter t step u = IfPush (λ above node place. ⊤) (u.next ≡ t.next) step
 
--- how many visits a change takes at most: the one of a new root, none where an edge changes, and of a
--- push as many as a step of a flush
+-- how many visits a change takes at most: the one of a new root, none where an edge changes, the one
+-- of a child that is to change, and of a push as many as a step of a flush
 abbrev pub reclaim_visits : Table → Reclaim → ℕ
 reclaim_visits t (Shrink child) = 1
 reclaim_visits t (Drop node place at) = 0
 reclaim_visits t (Redirect node place at) = 0
 reclaim_visits t (Bare node place) = 0
+reclaim_visits t (Trim node place) = 1
 reclaim_visits t (Push above node place) = step_visits t
 
 -- a change leaves less to change, unless it is a push

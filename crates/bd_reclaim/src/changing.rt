@@ -14,7 +14,7 @@ ghost use Rattle.bd_cover.specs.Reclaimed.{IsReclaimed, IsDecidedAt, IsDecideSte
 ghost use Rattle.bd_reclaim.specs.Changes.{IsReclaimMade, IsRootAfter, IsNextAfter, LeavesLess, IsWornChange, reclaim_visits};
 
 use crate::pushing::push_from;
-use bd_cover::{Reclaim, bare_step, decide_step, shrink};
+use bd_cover::{Reclaim, bare_step, decide_step, shrink, trim};
 use bd_message::MapFault;
 use bd_node::NodeStore;
 use bd_path::Fetched;
@@ -22,7 +22,7 @@ use std::alloc::Global;
 
 /// Makes a change that `reclaim_next` just found. All of it is done or nothing, and what the tree
 /// has stays. A push makes at most four nodes, and has at most as many visits as a step of a flush;
-/// the other changes make none, and fetch none but a new root.
+/// the other changes make none, and fetch none but a new root or a child that is to change.
 pub fn reclaim_step<S: NodeStore>(
     alloc: Global,
     store: &mut S,
@@ -55,6 +55,7 @@ pub fn reclaim_step<S: NodeStore>(
         Reclaim::Drop { node, place, at } => change_edge(alloc, store, &node, place, at),
         Reclaim::Redirect { node, place, at } => change_edge(alloc, store, &node, place, at),
         Reclaim::Bare { node, place } => bare_edge(alloc, store, &node, place),
+        Reclaim::Trim { node, place } => trim(alloc, store, &node, place),
         Reclaim::Push { above, node, place } => push_from(alloc, store, above, node, place),
     }
 }

@@ -14,7 +14,7 @@ ghost use Rattle.bd_node.specs.Stores.{FitsRoot, visited, AreVisits};
 ghost use Rattle.bd_query.specs.Asks.{AreVisitsOfWay, AreVisitsOfPart, AreVisitsOfWays, AreVisitsOfSome};
 ghost use Rattle.bd_graft.specs.Grafting.{IsGrown, IsGraftStep, IsWalkOf, AreOthersSame, IsWornForGraft, IsWornByGraft, OnWorn};
 ghost use Rattle.bd_path.specs.Made.{AreKnown};
-ghost use Rattle.bd_cover.specs.Walking.{IsDue, HasNone, IsToDo, IsToDoAt, walk_size, node_visits};
+ghost use Rattle.bd_cover.specs.Walking.{IsDue, HasNone, IsToDo, IsToDoAt, walk_size, first_visits, node_visits};
 ghost use Rattle.bd_cover.specs.Reclaimed.{IsReclaimed};
 ghost use Rattle.bd_reclaim.specs.Changes.{IsReclaimMade, IsRootAfter, IsNextAfter, LeavesLess, reclaim_visits, IsWornChange};
 ghost use Rattle.bd_step.specs.Settling.{IsSettled, IsSettleStep, IsSettleFound, IsWornToSettle};
@@ -281,7 +281,7 @@ impl<S: NodeStore> Tree<S> {
     /// are passed over unless `pushes` asks for them. The nodes in `passed` are passed over first, and
     /// it gets those at and below which nothing was found, for the next call: it says only where it is
     /// worth looking. Only the root and inner nodes that nothing else names are looked at, each at most
-    /// twice, with at most 17 visits.
+    /// twice, with at most 1,041 visits.
     pub fn reclaim_next(
         &mut self,
         passed: &mut HashSet<u64>,
@@ -307,7 +307,8 @@ impl<S: NodeStore> Tree<S> {
             (S.table self.old.store).root) }
         ensures twice { S.visit_count self.new.store ≤ S.visit_count self.old.store
             + 2 * (node_visits * kept_count (S.table self.old.store))
-            + (S.table self.old.store).level (S.table self.old.store).root + node_visits }
+            + first_visits * (S.table self.old.store).level (S.table self.old.store).root
+            + node_visits }
         ensures walk { self.new.walk ≡ self.old.walk }
     {
         reclaim_next(self.alloc, &mut self.store, passed, pushes)
@@ -315,7 +316,8 @@ impl<S: NodeStore> Tree<S> {
 
     /// Makes a change of reclaiming that `reclaim_next` just found: what the tree has stays. A push
     /// makes at most four nodes, and has at most as many visits as a step of a flush; the other
-    /// changes fetch and make none. A fault leaves all as it was.
+    /// changes make none, and fetch none but a new root or a child that is to change. A fault leaves
+    /// all as it was.
     pub fn reclaim_step(&mut self, step: Reclaim) -> Result<(), MapFault>
         requires to_do { IsToDo (S.table self.old.store) step }
         requires at { OfSound S.NodeStore self.old.store

@@ -5,11 +5,13 @@ use Rattle.std.specs.Prelude.{Some}
 use Rattle.bd_node.specs.declared.node.Node.{Node}
 use Rattle.bd_cover.specs.declared.covering.Cover.TheVariants.{Gone}
 use Rattle.bd_cover.specs.Bare.{HasNoBare}
+use Rattle.bd_cover.specs.Trimming.{HasNoTrim}
 use Rattle.bd_cover.specs.Covering.{HasNoCovered}
 use Rattle.bd_cover.specs.Walking.IsUnder.{itself}
 use Rattle.bd_cover.specs.declared.walking.Reclaim.{Reclaim}
-use Rattle.bd_cover.specs.declared.walking.Reclaim.TheVariants.{Shrink, Drop, Redirect, Bare, Push}
+use Rattle.bd_cover.specs.declared.walking.Reclaim.TheVariants.{Shrink, Drop, Redirect, Bare, Trim, Push}
 use Rattle.bd_view.specs.Views.{View, changed_count, free_slots}
+use Rattle.bd_view.specs.Moves.{saved_view}
 use Rattle.bd_view.specs.Reclaiming.{HasRoomFor, IsReclaim, IsReclaimFull, edge_need}
 use Rattle.bd_view.specs.Reclaiming.IsReclaimFull.{first, edge, last}
 use Rattle.bd_view.proofs.Saved.{saves_all}
@@ -26,7 +28,28 @@ reclaim_root old new n h there = (h.whole h.last.tree.table.root n itself (root_
 
 pub reclaim_bare : (old new : View) (n : Node) → IsReclaim old new → new.tree.nodes new.tree.table.root ≡ Some n → HasNoBare new.tree.nodes n
 reclaim_bare old new n h there =
-    subst (λ (v : View). HasNoBare v.tree.nodes n) (sym h.ends.after) (h.whole h.last.tree.table.root n itself (root_before old new n h there)).1
+    subst (λ (v : View). HasNoBare v.tree.nodes n) (sym h.ends.after) (h.whole h.last.tree.table.root n itself (root_before old new n h there)).2
+
+-- which children have more than their edges ask for doesn't depend on what was changed since a checkpoint
+trim_saved : (v : View) (n : Node) → HasNoTrim v.tree.nodes v.tree.table n → HasNoTrim (saved_view v).tree.nodes (saved_view v).tree.table n
+trim_saved v n none place b =
+    none place (record {
+      edge = b.edge;
+      here = b.here;
+      trim = record {
+        child = b.trim.child;
+        walked = record { child_is = b.trim.walked.child_is; once = b.trim.walked.once; inner = b.trim.walked.inner };
+        plain = b.trim.plain;
+        node = b.trim.node;
+        there = b.trim.there;
+        made = b.trim.made;
+        trimmed = b.trim.trimmed;
+      };
+    })
+
+pub reclaim_trim : (old new : View) (n : Node) → IsReclaim old new → new.tree.nodes new.tree.table.root ≡ Some n → HasNoTrim new.tree.nodes new.tree.table n
+reclaim_trim old new n h there =
+    subst (λ (v : View). HasNoTrim v.tree.nodes v.tree.table n) (sym h.ends.after) (trim_saved h.last n (h.whole h.last.tree.table.root n itself (root_before old new n h there)).1)
 
 -- ---- where it is refused
 
@@ -35,6 +58,7 @@ edge_short (Shrink child) v short = absurd (short tt)
 edge_short (Drop node place at) v short = elim (cases_lt (free_slots v) (edge_need v)) [ inl few ↦ few | inr room ↦ absurd (short room) ]
 edge_short (Redirect node place at) v short = elim (cases_lt (free_slots v) (edge_need v)) [ inl few ↦ few | inr room ↦ absurd (short room) ]
 edge_short (Bare node place) v short = elim (cases_lt (free_slots v) (edge_need v)) [ inl few ↦ few | inr room ↦ absurd (short room) ]
+edge_short (Trim node place) v short = elim (cases_lt (free_slots v) (edge_need v)) [ inl few ↦ few | inr room ↦ absurd (short room) ]
 edge_short (Push above node place) v short = absurd (short tt)
 
 pub reclaim_short : (old new : View) (free need : ℕ) → IsReclaimFull old free need new → (free ≡ free_slots new) × (free < need)

@@ -8,7 +8,7 @@ use Rattle.bd_device.specs.Changes.{StaysBut}
 use Rattle.bd_device.specs.Device.{left_now, OnlyReads}
 use Rattle.bd_device.specs.Moments.{Nothing}
 use Rattle.bd_device.specs.declared.device.Device.{Ghosts}
-use Rattle.bd_device.proofs.Calls.{stays_then, reads_stay}
+use Rattle.bd_device.proofs.Calls.{stays_then, reads_stay, reads_then}
 use Rattle.bd_device.proofs.Changes.{stays_same, stays_both}
 use Rattle.bd_device.proofs.Moments.{goes_on, within}
 use Rattle.bd_graft.specs.declared.grafting.Walk.{Walk}
@@ -16,6 +16,7 @@ use Rattle.bd_node.specs.Tables.{Table, root_at}
 use Rattle.bd_image.specs.Standing.{IsAsBefore, IsOldOrNew}
 use Rattle.bd_checkpoint.specs.Kept.{AllAsBefore}
 use Rattle.bd_checkpoint.proofs.Handed.{IsSince, before_twice}
+use Rattle.bd_pager.specs.Calling.{no_reads}
 use Rattle.bd_pager.specs.Slots.{IsSpare}
 use Rattle.bd_pager.specs.Pagers.{Paged, nodes_of, table_of}
 use Rattle.bd_view.specs.Views.{View, free_slots, need_slots}
@@ -23,6 +24,8 @@ use Rattle.bd_view.specs.Moves.{CannotSave}
 use Rattle.bd_engine.specs.Engines.{EngineState, keys_of, IsSoundOn, IsReadOn, OnlyNodesOn, WritesEarly, view_of as view_in}
 use Rattle.bd_volume.specs.declared.fault.Fault.{Fault}
 use Rattle.bd_volume.specs.declared.volume.Volume.{Volume}
+use Rattle.bd_volume.specs.declared.volume.replaying.Replay.{Replay}
+use Rattle.bd_volume.specs.declared.volume.replaying.Replay.TheVariants.{Spills}
 use Rattle.bd_volume.specs.Faults.{HasNotFailed, IsGoing, IsStoppedRightly}
 use Rattle.bd_volume.specs.Replays.{OnlyEarly, ReplaysEarly, KeepsGood}
 use Rattle.bd_volume.specs.Steps.{KeepsStanding}
@@ -70,9 +73,10 @@ module _ {D : Type 0} (g : Ghosts D) where
   pub early_keys : (a b : Volume D) → view_of g b ≡ view_of g a → SameAt (keys_of g a.engine.pager) (keys_of g b.engine.pager)
   early_keys a b same k = ap (λ (v : View). root_at v.tree.nodes v.tree.table k) same
 
+module _ {D : Type 0} (g : Ghosts D) (how : Replay) where
   -- ---- what a replay writes
 
-  early_both : (a b d : EngineState D) → OnlyEarly g a b → OnlyEarly g b d → OnlyEarly g a d
+  early_both : (a b d : EngineState D) → OnlyEarly g how a b → OnlyEarly g how b d → OnlyEarly g how a d
   early_both a b d p q =
       let first : Image → Type 0 = left_now g a.pager.dev in
       let mid : Image → Type 0 = left_now g b.pager.dev in
@@ -82,30 +86,33 @@ module _ {D : Type 0} (g : Ghosts D) where
         slots = stays_both (IsSpare a.pager.spare) (g.contents a.pager.dev) (g.contents b.pager.dev) (g.contents d.pager.dev) p.slots
             (subst (λ (s : List Bool). StaysBut (IsSpare s) (g.contents b.pager.dev) (g.contents d.pager.dev)) p.spare q.slots);
         good = good_both g a b d p.good q.good;
+        quiet = λ is. reads_then (p.quiet is) (q.quiet is);
         stays = stays_then p.stays q.stays;
         spare = q.spare ∙ p.spare;
         log = q.log ∙ p.log;
         live = q.live ∙ p.live;
       }
 
-  early_same : (a : EngineState D) → OnlyEarly g a a
+  early_same : (a : EngineState D) → OnlyEarly g how a a
   early_same a = record {
     time = record { later = omega arith; keeps = λ u c le left. left; adds = λ u c le left. inl left };
     kept = λ c left. (c, left, λ t n s. s);
     slots = stays_same (IsSpare a.pager.spare) (g.contents a.pager.dev);
     good = good_same g a;
+    quiet = λ is. no_reads g a.pager.dev;
     stays = record { count = refl; same_name = λ name was. was; same_loans = refl };
     spare = refl;
     log = refl;
     live = refl;
   }
 
-  early_read : (a b : EngineState D) → IsSince g b.pager.dev → OnlyReads g a.pager.dev b.pager.dev → KeepsGood g a b → b.pager.spare ≡ a.pager.spare → b.log ≡ a.log → b.live ≡ a.live → OnlyEarly g a b
+  early_read : (a b : EngineState D) → IsSince g b.pager.dev → OnlyReads g a.pager.dev b.pager.dev → KeepsGood g a b → b.pager.spare ≡ a.pager.spare → b.log ≡ a.log → b.live ≡ a.live → OnlyEarly g how a b
   early_read a b earlier reads good spare log live = record {
     time = within Nothing (IsAsBefore (left_now g a.pager.dev)) reads.time (λ c none. absurd none);
     kept = read_before g a.pager.dev b.pager.dev earlier reads;
     slots = subst (λ (o : Option Image). StaysBut (IsSpare a.pager.spare) (g.contents a.pager.dev) o) (sym reads.kept) (stays_same (IsSpare a.pager.spare) (g.contents a.pager.dev));
     good = good;
+    quiet = λ is. reads;
     stays = reads_stay reads;
     spare = spare;
     log = log;
@@ -116,13 +123,13 @@ module _ {D : Type 0} (g : Ghosts D) where
 
   -- no write failed in them
   pub record GoesEarly (a b : Volume D) : Type 0 where
-    pub early : OnlyEarly g a.engine b.engine
+    pub early : OnlyEarly g how a.engine b.engine
     pub going : IsGoing g a b
 
   pub goes_none : (a : Volume D) → stop_of a ≡ None → GoesEarly a a
   goes_none a going = record { early = early_same a.engine; going = record { stop_is = going; write_faults = refl } }
 
-  pub goes_ok : {T : Type 0} (a b : Volume D) (x : T) → ReplaysEarly {T = T} g a b (Ok x) → GoesEarly a b
+  pub goes_ok : {T : Type 0} (a b : Volume D) (x : T) → ReplaysEarly {T = T} g how a b (Ok x) → GoesEarly a b
   goes_ok a b x h = record { early = h.early; going = h.stop.ok }
 
   pub goes_both : (a b d : Volume D) → GoesEarly a b → GoesEarly b d → GoesEarly a d
@@ -148,22 +155,25 @@ module _ {D : Type 0} (g : Ghosts D) where
 
   -- ---- by results
 
-  pub early_goes : {T : Type 0} (a b : Volume D) (r : Result T Fault) → GoesEarly a b → ReplaysEarly g a b r
+  pub early_goes : {T : Type 0} (a b : Volume D) (r : Result T Fault) → GoesEarly a b → ReplaysEarly g how a b r
   early_goes a b r h = record { early = h.early; stop = stop_none g a b r h.going }
 
-  pub early_fails : {T U : Type 0} (a b d : Volume D) (fault : Fault) → GoesEarly a b → HasNotFailed g a b → ReplaysEarly {T = U} g b d (Err fault) → ReplaysEarly {T = T} g a d (Err fault)
+  pub early_fails : {T U : Type 0} (a b d : Volume D) (fault : Fault) → GoesEarly a b → HasNotFailed g a b → ReplaysEarly {T = U} g how b d (Err fault) → ReplaysEarly {T = T} g how a d (Err fault)
   early_fails a b d fault p faults q = record {
     early = early_both a.engine b.engine d.engine p.early q.early;
     stop = stop_then g a b d (Err fault) p.going faults (record { ok = tt; err = q.stop.err });
   }
 
-  pub early_call : {T : Type 0} (a b : Volume D) (r : Result T Fault) → WritesEarly g a.engine b.engine → IsStoppedRightly g a b r → ReplaysEarly g a b r
+module _ {D : Type 0} (g : Ghosts D) where
+  -- nodes that were written early, where that may be
+  pub early_call : {T : Type 0} (a b : Volume D) (r : Result T Fault) → WritesEarly g a.engine b.engine → IsStoppedRightly g a b r → ReplaysEarly g Spills a b r
   early_call a b r h stop = record {
     early = record {
       time = h.time;
       kept = h.kept;
       slots = h.slots;
       good = good_early g a.engine b.engine h;
+      quiet = λ is. let bad : ⊥ = cc in absurd bad;
       stays = h.stays;
       spare = ap (λ (p : Paged D). p.spare) h.pager;
       log = ap (λ (e : EngineState D). e.log) h.rest;

@@ -7,6 +7,7 @@ pub mod Keeping
 pub mod Read
 pub mod Reclaimed
 pub mod Reclaims
+pub mod Rehearsed
 pub mod Replayed
 pub mod Room
 pub mod Safe

@@ -12,11 +12,11 @@ use Rattle.bd_node.specs.Meaning.{Nodes}
 use Rattle.bd_node.specs.Steps.{IsWornBy}
 use Rattle.bd_node.specs.Tables.{Table, IsSound}
 use Rattle.bd_cover.specs.declared.walking.Reclaim.{Reclaim}
-use Rattle.bd_cover.specs.declared.walking.Reclaim.TheVariants.{Shrink, Drop, Redirect, Bare, Push}
+use Rattle.bd_cover.specs.declared.walking.Reclaim.TheVariants.{Shrink, Drop, Redirect, Bare, Trim, Push}
 use Rattle.bd_cover.specs.Reclaimed.{left_over, root_only}
 use Rattle.bd_reclaim.specs.Changes.{IsWornChange, LeavesLess}
 use Rattle.bd_cover.specs.Walking.{IsDue, IfPush}
-use Rattle.bd_cover.specs.Walking.IsDue.{here, bare, below}
+use Rattle.bd_cover.specs.Walking.IsDue.{here, trim, bare, below}
 use Rattle.bd_view.specs.Views.{View, changed_count, free_slots}
 use Rattle.bd_view.specs.Moves.{Saves}
 use Rattle.bd_view.specs.Reclaiming.{push_limit, allows_push, push_need, pushes_in, HasRoomFor, IsDueChange, HasNoChange, Reclaims, AreReclaims}
@@ -44,9 +44,11 @@ pushes_asked pushes nodes t (Shrink child) id due some = absurd (omega (arith, s
 pushes_asked pushes nodes t (Drop node place at) id due some = absurd (omega (arith, some))
 pushes_asked pushes nodes t (Redirect node place at) id due some = absurd (omega (arith, some))
 pushes_asked pushes nodes t (Bare node place) id due some = absurd (omega (arith, some))
+pushes_asked pushes nodes t (Trim node place) id due some = absurd (omega (arith, some))
 pushes_asked pushes nodes t (Push above node place) _ (here f there at) some = at.4
-pushes_asked pushes nodes t (Push above node place) _ (bare f at there clean is_bare is) some = cc
-pushes_asked pushes nodes t (Push above node place) _ (below i p c n e there clean edge walked due) some = pushes_asked pushes nodes t (Push above node place) c due some
+pushes_asked pushes nodes t (Push above node place) _ (trim f at there clean is_trim is) some = cc
+pushes_asked pushes nodes t (Push above node place) _ (bare f at there clean no_trim is_bare is) some = cc
+pushes_asked pushes nodes t (Push above node place) _ (below i p c n e there clean no_trim edge walked due) some = pushes_asked pushes nodes t (Push above node place) c due some
 
 next_pushes : (before : ℕ) (step : Reclaim) (v : View) → IsDueChange before step v → 1 ≤ pushes_in step → before < push_limit
 next_pushes before step v next some =
@@ -57,6 +59,7 @@ push_few (Shrink child) = omega arith
 push_few (Drop node place at) = omega arith
 push_few (Redirect node place at) = omega arith
 push_few (Bare node place) = omega arith
+push_few (Trim node place) = omega arith
 push_few (Push above node place) = omega arith
 
 -- after a change there were no more pushes than may be
@@ -107,6 +110,7 @@ made_less (Shrink child) count before after lo ln fo fn most less is unpushed lo
 made_less (Drop node place at) count before after lo ln fo fn most less is unpushed low h = omega (arith, less, low, h)
 made_less (Redirect node place at) count before after lo ln fo fn most less is unpushed low h = omega (arith, less, low, h)
 made_less (Bare node place) count before after lo ln fo fn most less is unpushed low h = omega (arith, less, low, h)
+made_less (Trim node place) count before after lo ln fo fn most less is unpushed low h = omega (arith, less, low, h)
 made_less (Push above node place) count before after lo ln fo fn most less is unpushed low h = absurd (unpushed (omega (arith, is)))
 
 pub within_next : (count most before after : ℕ) (old new : View) → IsWithin count most old → ChangesOnce before after old new → (before < after → ⊥) → IsWithin (count + 1) most new
@@ -180,6 +184,7 @@ never_by_change K nodes t (Shrink child) which unworn other h = unworn (root_onl
 never_by_change K nodes t (Drop node place at) which unworn other h = unworn h.step h.worn
 never_by_change K nodes t (Redirect node place at) which unworn other h = unworn h.step h.worn
 never_by_change K nodes t (Bare node place) which unworn other h = unworn h.step h.worn
+never_by_change K nodes t (Trim node place) which unworn other h = unworn h.step h.worn
 never_by_change K nodes t (Push above node place) which unworn other h =
     elim h.worn [
       | inl w ↦ unworn w.step w.worn
@@ -192,6 +197,20 @@ worn_where K L nodes t (Shrink child) which knows h = h
 worn_where K L nodes t (Drop node place at) which knows h = h
 worn_where K L nodes t (Redirect node place at) which knows h = h
 worn_where K L nodes t (Bare node place) which knows h = h
+worn_where K L nodes t (Trim node place) which knows h = record {
+  step = h.step;
+  is = record {
+    edge = h.is.edge;
+    child = h.is.child;
+    asks = h.is.asks;
+    fetched = h.is.fetched;
+    there = λ known. h.is.there (knows known);
+    made = h.is.made;
+    narrowed = h.is.narrowed;
+    is = h.is.is;
+  };
+  worn = h.worn;
+}
 worn_where K L nodes t (Push above node place) which knows h = from_where K L nodes t (record { above = above; parent = node; place = place }) which knows h
 
 -- the counter has no room for a change that is due

@@ -45,7 +45,8 @@ use Rattle.bd_engine.proofs.Counted.{flushed_none as uncounted, flushed_once, fl
 use Rattle.bd_volume.specs.declared.fault.Fault.{Fault}
 use Rattle.bd_volume.specs.declared.fault.Fault.TheVariants.{Device, Damaged, Worn, NoMemory, Full, Stopped}
 use Rattle.bd_volume.specs.declared.volume.Volume.{Volume}
-use Rattle.bd_volume.specs.Faults.{fault_of, HasNotFailed, IsFaultCause}
+use Rattle.bd_volume.specs.declared.volume.replaying.Replay.{Replay}
+use Rattle.bd_volume.specs.Faults.{fault_of, HasNotFailed, IsFaultCause, HasFaultCause}
 use Rattle.bd_volume.specs.Volume.{view_of, count_of, device_of, stop_of}
 use Rattle.bd_volume.specs.Wears.{IsWornInReplay}
 use Rattle.bd_volume.specs.Replays.{IsReplayCause, HasReplayCause, HasTreeOn, SendsAgain, ReplaysOn, IsWornAgain, WearsAgain, HasFlushedAgain, IsFlushFault, IsAgainFault, IsSendFault, IsReplayFault, commands_of, HasReplayed, ReplaysFront, KeepsGood}
@@ -140,10 +141,15 @@ module _ {D : Type 0} (g : Ghosts D) where
   pub cause_damaged : {T : Type 0} (a b : Volume D) (block : ℕ) → HasNotFailed g a b → HasReplayCause {T = T} g a b (Err (Damaged block))
   cause_damaged a b block same = record { kept = tt; failed = same }
 
-  pub cause_device : {T : Type 0} (a b : Volume D) (fault : Fault) → fault ≡ Device → IsFaultCause g a b fault → HasReplayCause {T = T} g a b (Err fault)
+  cause_device : {T : Type 0} (a b : Volume D) (fault : Fault) → fault ≡ Device → IsFaultCause g a b fault → HasReplayCause {T = T} g a b (Err fault)
   cause_device {T} a b fault is h =
       let failed : LastFailed g (device_of a) (device_of b) = subst (λ (f : Fault). IsFaultCause g a b f) is h in
       subst (λ (f : Fault). HasReplayCause {T = T} g a b (Err f)) (sym is) (record { kept = tt; failed = failed })
+
+  -- nodes were written early, or the device failed
+  pub cause_spill : {T : Type 0} (r : Result T Fault) (a b : Volume D) → IfErr r (λ fault. fault ≡ Device) → HasFaultCause g a b r → HasReplayCause g a b r
+  cause_spill (Ok x) a b is h = record { kept = h.kept; failed = tt }
+  cause_spill {T} (Err e) a b is h = cause_device {T = T} a b e is h.failed
 
   map_replay_cause : (a b : Volume D) (worn : Counter → Type 0) (fault : MapFault) → StaysUnlessDevice (g.fault_count (device_of a)) (g.fault_count (device_of b)) fault
       → IsCause (g.fault_count (device_of a)) (g.fault_count (device_of b)) (g.last_failed (device_of b)) (is_bad g b.engine.pager) worn fault → IsReplayCause g a b (fault_of fault)
@@ -207,59 +213,59 @@ module _ {D : Type 0} (g : Ghosts D) where
   -- ---- flush steps of a command of the log
 
   -- so many were made
-  pub record FlushedOn (c : Command) (made : ℕ) (a b : Volume D) : Type 0 where
+  pub record FlushedOn (how : Replay) (c : Command) (made : ℕ) (a b : Volume D) : Type 0 where
     pub sound : IsSoundOn g a.engine → IsSoundOn g b.engine
     pub same : IsSoundOn g a.engine → SameAt (keys_of g a.engine.pager) (keys_of g b.engine.pager)
     pub flushed : IsSoundOn g a.engine → AreFlushedAgain c made (view_of g a) (view_of g b)
-    pub goes : GoesEarly g a b
+    pub goes : GoesEarly g how a b
     pub faults : HasNotFailed g a b
     pub count_is : count_of b ≡ count_of a
     pub counted : b.engine.flushes ≡ flushed_on a.engine.flushes made
 
-  pub flushed_none : (c : Command) (a : Volume D) → stop_of a ≡ None → a.engine.flushes < 2 ^ 64 → FlushedOn c 0 a a
-  flushed_none c a going low = record {
+  pub flushed_none : (how : Replay) (c : Command) (a : Volume D) → stop_of a ≡ None → a.engine.flushes < 2 ^ 64 → FlushedOn how c 0 a a
+  flushed_none how c a going low = record {
     sound = λ s. s;
     same = λ s k. refl;
     flushed = λ s. none (view_of g a);
-    goes = goes_none g a going;
+    goes = goes_none g how a going;
     faults = refl;
     count_is = refl;
     counted = uncounted a.engine.flushes low;
   }
 
-  pub flushed_more : (c : Command) (made : ℕ) (a b d : Volume D) → FlushedOn c made a b → (IsSoundOn g b.engine → IsSoundOn g d.engine) → (IsSoundOn g b.engine → SameAt (keys_of g b.engine.pager) (keys_of g d.engine.pager))
-      → (IsSoundOn g b.engine → FlushesAgain c (view_of g b) (view_of g d)) → GoesEarly g b d → HasNotFailed g b d → count_of d ≡ count_of b → d.engine.flushes ≡ flushed_on b.engine.flushes 1 → FlushedOn c (made + 1) a d
-  flushed_more c made a b d h sound same step goes faults count counted = record {
+  pub flushed_more : (how : Replay) (c : Command) (made : ℕ) (a b d : Volume D) → FlushedOn how c made a b → (IsSoundOn g b.engine → IsSoundOn g d.engine) → (IsSoundOn g b.engine → SameAt (keys_of g b.engine.pager) (keys_of g d.engine.pager))
+      → (IsSoundOn g b.engine → FlushesAgain c (view_of g b) (view_of g d)) → GoesEarly g how b d → HasNotFailed g b d → count_of d ≡ count_of b → d.engine.flushes ≡ flushed_on b.engine.flushes 1 → FlushedOn how c (made + 1) a d
+  flushed_more how c made a b d h sound same step goes faults count counted = record {
     sound = λ s. sound (h.sound s);
     same = λ s k. same (h.sound s) k ∙ h.same s k;
     flushed = λ s. more made (view_of g a) (view_of g b) (view_of g d) (h.flushed s) (step (h.sound s));
-    goes = goes_both g a b d h.goes goes;
+    goes = goes_both g how a b d h.goes goes;
     faults = faults ∙ h.faults;
     count_is = count ∙ h.count_is;
     counted = counted ∙ ap (λ (n : ℕ). flushed_on n 1) h.counted ∙ flushed_once a.engine.flushes made;
   }
 
   -- no more was
-  pub flushed_last : (c : Command) (made : ℕ) (a b d : Volume D) → FlushedOn c made a b → (IsSoundOn g b.engine → IsSoundOn g d.engine) → (IsSoundOn g b.engine → SameAt (keys_of g b.engine.pager) (keys_of g d.engine.pager))
-      → (IsSoundOn g b.engine → view_of g d ≡ view_of g b) → GoesEarly g b d → HasNotFailed g b d → count_of d ≡ count_of b → d.engine.flushes ≡ b.engine.flushes → FlushedOn c made a d
-  flushed_last c made a b d h sound same view goes faults count counted = record {
+  pub flushed_last : (how : Replay) (c : Command) (made : ℕ) (a b d : Volume D) → FlushedOn how c made a b → (IsSoundOn g b.engine → IsSoundOn g d.engine) → (IsSoundOn g b.engine → SameAt (keys_of g b.engine.pager) (keys_of g d.engine.pager))
+      → (IsSoundOn g b.engine → view_of g d ≡ view_of g b) → GoesEarly g how b d → HasNotFailed g b d → count_of d ≡ count_of b → d.engine.flushes ≡ b.engine.flushes → FlushedOn how c made a d
+  flushed_last how c made a b d h sound same view goes faults count counted = record {
     sound = λ s. sound (h.sound s);
     same = λ s k. same (h.sound s) k ∙ h.same s k;
     flushed = λ s. again_same c made (view_of g a) (view_of g b) (view_of g d) (h.flushed s) (view (h.sound s));
-    goes = goes_both g a b d h.goes goes;
+    goes = goes_both g how a b d h.goes goes;
     faults = faults ∙ h.faults;
     count_is = count ∙ h.count_is;
     counted = counted ∙ h.counted;
   }
 
   -- there were few
-  pub few_made : (c : Command) (made : ℕ) (a b d : Volume D) → FlushedOn c made a b → made ≤ flush_limit → d.engine.flushes ≡ b.engine.flushes → d.engine.flushes ≤ a.engine.flushes + flush_limit
-  few_made c made a b d h few same =
+  pub few_made : (how : Replay) (c : Command) (made : ℕ) (a b d : Volume D) → FlushedOn how c made a b → made ≤ flush_limit → d.engine.flushes ≡ b.engine.flushes → d.engine.flushes ≤ a.engine.flushes + flush_limit
+  few_made how c made a b d h few same =
       let low : flushed_on a.engine.flushes made ≤ a.engine.flushes + made = flushed_few a.engine.flushes made in
       omega (arith, low, few, same, h.counted)
 
-  pub has_flushed : (c : Command) (source : Option (List ℕ)) (made : ℕ) (a b : Volume D) → FlushedOn c made a b → made ≤ flush_limit → IsSoundOn g a.engine → (made ≡ flush_limit) ⊎ IsSettledFor source (view_of g b).tree → HasFlushedAgain c source (view_of g a) (view_of g b)
-  has_flushed c source made a b h few s settled = record { made = made; flushed = h.flushed s; few = few; settled = settled }
+  pub has_flushed : (how : Replay) (c : Command) (source : Option (List ℕ)) (made : ℕ) (a b : Volume D) → FlushedOn how c made a b → made ≤ flush_limit → IsSoundOn g a.engine → (made ≡ flush_limit) ⊎ IsSettledFor source (view_of g b).tree → HasFlushedAgain c source (view_of g a) (view_of g b)
+  has_flushed how c source made a b h few s settled = record { made = made; flushed = h.flushed s; few = few; settled = settled }
 
   -- ---- faults of what it sends
 

@@ -45,7 +45,9 @@ use Rattle.bd_engine.proofs.Damage.{first_shown}
 use Rattle.bd_volume.specs.declared.fault.Fault.{Fault}
 use Rattle.bd_volume.specs.declared.fault.Fault.TheVariants.{Device, Damaged, Worn, NoMemory, Full, Stopped}
 use Rattle.bd_volume.specs.declared.volume.Volume.{Volume}
+use Rattle.bd_volume.specs.declared.volume.replaying.Replay.{Replay}
 use Rattle.bd_volume.specs.Faults.{image_fault_of, IsStartCause}
+use Rattle.bd_volume.specs.Rehearsals.{HasBase}
 use Rattle.bd_volume.specs.Replays.{IsReplayCause, ReplaysEarly, HasTreeOn, WearsAgain, Refuses, commands_of, HasReplayed, ReplaysFront, StopsReplaying, ShowsReplay}
 use Rattle.bd_volume.specs.Unstarted.{ShowsWornReplay}
 use Rattle.bd_volume.specs.Volume.{StandsFor, IsFirstView, view_of, without_walk, count_of, device_of}
@@ -78,31 +80,38 @@ open_cause g old new left cause e is same h =
 
 -- ---- lists of commands
 
-middle : {X : Type 0} (P : X → Type 0) (xs : List X) (y : X) (ys : List X) → AllByRecursion P (xs ++ y ∷ ys) → P y
+pub middle : {X : Type 0} (P : X → Type 0) (xs : List X) (y : X) (ys : List X) → AllByRecursion P (xs ++ y ∷ ys) → P y
 middle P [] y ys h = h.0
 middle P (x ∷ xs) y ys h = middle P xs y ys h.1
 
-front_of : {X : Type 0} (P : X → Type 0) (xs ys : List X) → AllByRecursion P (xs ++ ys) → AllByRecursion P xs
+pub front_of : {X : Type 0} (P : X → Type 0) (xs ys : List X) → AllByRecursion P (xs ++ ys) → AllByRecursion P xs
 front_of P [] ys h = tt
 front_of P (x ∷ xs) ys h = (h.0, front_of P xs ys h.1)
 
-whole_front : {X : Type 0} (list front : List X) → list ≡ front ++ [] → list ≡ front
+pub whole_front : {X : Type 0} (list front : List X) → list ≡ front ++ [] → list ≡ front
 whole_front list front there = there ∙ append-nil front
 
 module _ {D : Type 0} (g : Ghosts D) where
   -- ---- over the replay
 
-  -- what is found has a tree
-  pub opened_has : (v : Volume D) (fresh : IsFreshOn g v.engine) (list : List PlacedCommand) (t : Tree) (n : ℕ) → (h : LeadsTo g v.engine.pager v.engine.live list t n) → HasTreeOn g v h.base
-  opened_has v fresh list t n h = record {
+  -- nodes that have a tree have it in a fresh volume
+  pub base_has : (v : Volume D) (fresh : IsFreshOn g v.engine) (base : Tree) → HasBase g v.engine.pager base → HasTreeOn g v base
+  base_has v fresh base h = record {
     nodes = fresh (record { known = h.known; sound = h.have.sound });
     is_tree = h.have.is_tree;
     represents = h.have.represents;
   }
 
-  pub started_for : {T : Type 0} (dev : D) (a v : Volume D) (fresh : IsFreshOn g a.engine) (r : Result T Fault) (list : List PlacedCommand) (t : Tree) (n : ℕ) → a.count ≡ a.engine.live.count → a.engine.log.waiting ≡ [] → OnlyReads g dev (device_of a) → IsOnly (g.contents (device_of a)) (left_now g (device_of a))
-      → ReplaysEarly g a v r → ReplaysFront g list [] a v → LeadsTo g a.engine.pager a.engine.live list t n → IsSomeAnd (g.contents dev) (ImageStandsFor t n) → StandsFor g v t n
-  started_for dev a v fresh r list t n counted idle reads only writes front led h =
+  led_base : (v : Volume D) (list : List PlacedCommand) (t : Tree) (n : ℕ) → (h : LeadsTo g v.engine.pager v.engine.live list t n) → HasBase g v.engine.pager h.base
+  led_base v list t n h = record { known = h.known; have = h.have }
+
+  -- what is found has a tree
+  opened_has : (v : Volume D) (fresh : IsFreshOn g v.engine) (list : List PlacedCommand) (t : Tree) (n : ℕ) → (h : LeadsTo g v.engine.pager v.engine.live list t n) → HasTreeOn g v h.base
+  opened_has v fresh list t n h = base_has v fresh h.base (led_base v list t n h)
+
+  pub started_for : {T : Type 0} (how : Replay) (dev : D) (a v : Volume D) (fresh : IsFreshOn g a.engine) (r : Result T Fault) (list : List PlacedCommand) (t : Tree) (n : ℕ) → a.count ≡ a.engine.live.count → a.engine.log.waiting ≡ [] → OnlyReads g dev (device_of a) → IsOnly (g.contents (device_of a)) (left_now g (device_of a))
+      → ReplaysEarly g how a v r → ReplaysFront g list [] a v → LeadsTo g a.engine.pager a.engine.live list t n → IsSomeAnd (g.contents dev) (ImageStandsFor t n) → StandsFor g v t n
+  started_for how dev a v fresh r list t n counted idle reads only writes front led h =
       let all : list ≡ front.front = whole_front list front.front front.there in
       let done : HasReplayed g led.base front.front a v = front.done led.base (opened_has a fresh list t n led) in
       let same : done.tree ≡ t = leads_one front.front led.base done.tree t done.leads (subst (λ (l : List PlacedCommand). LeadsBy l led.base t) all led.leads) in
@@ -226,7 +235,7 @@ module _ {D : Type 0} (g : Ghosts D) where
   -- ---- from an image that stands for a tree
 
   -- a sound engine has no bad block, where its nodes have none
-  not_bad : (e : EngineState D) (block : ℕ) → IsSoundOn g e → ¬ is_bad g e.pager block → IsBadOn g e block → ⊥
+  pub not_bad : (e : EngineState D) (block : ℕ) → IsSoundOn g e → ¬ is_bad g e.pager block → IsBadOn g e block → ⊥
   not_bad e block s good bad = good (λ known. elim (bad known) [
     | inl spot ↦ inl spot
     | inr first ↦ absurd (first.1 s)
@@ -246,11 +255,12 @@ module _ {D : Type 0} (g : Ghosts D) where
       let h : StopsReplaying g (Damaged block) list a = subst (λ (f : Fault). StopsReplaying g f list a) is stops in
       not_damaged a h.mid fresh list h.rest h.next block t n led h.before good h.cause
 
-  worn_of : (image : Image) (a : Volume D) (fresh : IsFreshOn g a.engine) (list : List PlacedCommand) (which : Counter) (t : Tree) (n : ℕ) → a.count ≡ a.engine.live.count → IsLive image a.engine.live → IsFound image (view_of g a) (commands_of list)
-      → LeadsTo g a.engine.pager a.engine.live list t n → StopsReplaying g (Worn which) list a → WearsReplaying which image
-  worn_of image a fresh list which t n counted live found led h =
-      let done : HasReplayed g led.base h.before.front a h.mid = h.before.done led.base (opened_has a fresh list t n led) in
-      let worn : WearsAgain which (count_of h.mid) h.next.command (view_of g h.mid) = h.cause (h.before.sound (opened_has a fresh list t n led).nodes) in
+  -- where so many commands were replayed, and a counter has no room for the next one
+  pub worn_of : (image : Image) (a : Volume D) (fresh : IsFreshOn g a.engine) (list : List PlacedCommand) (which : Counter) (base : Tree) → a.count ≡ a.engine.live.count → IsLive image a.engine.live → IsFound image (view_of g a) (commands_of list)
+      → HasBase g a.engine.pager base → StopsReplaying g (Worn which) list a → WearsReplaying which image
+  worn_of image a fresh list which base counted live found has h =
+      let done : HasReplayed g base h.before.front a h.mid = h.before.done base (base_has a fresh base has) in
+      let worn : WearsAgain which (count_of h.mid) h.next.command (view_of g h.mid) = h.cause (h.before.sound (base_has a fresh base has).nodes) in
       let split : commands_of list ≡ commands_of h.before.front ++ h.next.command ∷ commands_of h.rest = ap commands_of h.before.there ∙ map-append (λ (p : PlacedCommand). p.command) h.before.front (h.next ∷ h.rest) in
       let many : length (commands_of h.before.front) ≡ length h.before.front = length-map h.before.front (λ (p : PlacedCommand). p.command) in
       let count : count_of h.mid ≡ a.engine.live.count + length (commands_of h.before.front) = omega (arith, h.before.count_is, counted, many) in
@@ -258,8 +268,8 @@ module _ {D : Type 0} (g : Ghosts D) where
         live = a.engine.live;
         live_is = live;
         stored = view_of g a;
-        base = led.base;
-        represents = led.have.represents;
+        base = base;
+        represents = has.have.represents;
         front = commands_of h.before.front;
         next = h.next.command;
         rest = commands_of h.rest;
@@ -278,7 +288,8 @@ module _ {D : Type 0} (g : Ghosts D) where
       → IfSome known (λ image. ImageStandsFor t n image → (which : Counter) → fault ≡ Worn which → WearsReplaying which image)
   replay_wears None a fresh list fault t n counted placed found leads stops = tt
   replay_wears (Some image) a fresh list fault t n counted placed found leads stops = λ stands which is.
-      worn_of image a fresh list which t n counted placed.live_is (found stands) (leads stands) (subst (λ (f : Fault). StopsReplaying g f list a) is stops)
+      let led : LeadsTo g a.engine.pager a.engine.live list t n = leads stands in
+      worn_of image a fresh list which led.base counted placed.live_is (found stands) (led_base a list t n led) (subst (λ (f : Fault). StopsReplaying g f list a) is stops)
 
   -- where the nodes may not be known
   pub replay_shows : (known : Option Image) (a v : Volume D) (list : List PlacedCommand) (fault : Fault) (which : Counter) → a.count ≡ a.engine.live.count → a.engine.flushes ≡ 0 → IfSome known (λ image. ArePlaced image a.engine.live list) → v.engine.live ≡ a.engine.live

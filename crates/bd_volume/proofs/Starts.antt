@@ -28,6 +28,7 @@ use Rattle.bd_engine.specs.Stored.{IsStoredBy}
 use Rattle.bd_volume.specs.declared.fault.Fault.{Fault}
 use Rattle.bd_volume.specs.declared.volume.Volume.{Volume}
 use Rattle.bd_volume.specs.Faults.{IsStoppedRightly}
+use Rattle.bd_volume.specs.declared.volume.replaying.Replay.{Replay}
 use Rattle.bd_volume.specs.Replays.{ReplaysEarly}
 use Rattle.bd_volume.specs.Starts.{IsUnheld, IsUnheldIn, OnlyStarts, HasStarted}
 use Rattle.bd_volume.specs.Volume.{device_of}
@@ -87,24 +88,24 @@ module _ {D : Type 0} (g : Ghosts D) where
   stop_faults a v (Err e) h = elim h.err [ inl goes ↦ inl goes.write_faults | inr halts ↦ inr halts.0.write_faults ]
 
   -- of the slots no more was written than the last checkpoint leaves
-  slots_start : {T : Type 0} (dev : D) (a v : Volume D) (r : Result T Fault) → OnlyReads g dev (device_of a) → ReplaysEarly g a v r → StaysBut (IsSpare a.engine.pager.spare) (g.contents dev) (g.contents (device_of v))
-  slots_start dev a v r reads h = subst (λ (o : Option Image). StaysBut (IsSpare a.engine.pager.spare) o (g.contents (device_of v))) reads.kept h.early.slots
+  slots_start : {T : Type 0} (how : Replay) (dev : D) (a v : Volume D) (r : Result T Fault) → OnlyReads g dev (device_of a) → ReplaysEarly g how a v r → StaysBut (IsSpare a.engine.pager.spare) (g.contents dev) (g.contents (device_of v))
+  slots_start how dev a v r reads h = subst (λ (o : Option Image). StaysBut (IsSpare a.engine.pager.spare) o (g.contents (device_of v))) reads.kept h.early.slots
 
-  pub slots_started : {T : Type 0} (dev : D) (a v : Volume D) (r : Result T Fault) → OnlyReads g dev (device_of a) → ReplaysEarly g a v r → StaysBut (IsSpare v.engine.pager.spare) (g.contents dev) (g.contents (device_of v))
-  slots_started dev a v r reads h = subst (λ (s : List Bool). StaysBut (IsSpare s) (g.contents dev) (g.contents (device_of v))) (sym h.early.spare) (slots_start dev a v r reads h)
+  pub slots_started : {T : Type 0} (how : Replay) (dev : D) (a v : Volume D) (r : Result T Fault) → OnlyReads g dev (device_of a) → ReplaysEarly g how a v r → StaysBut (IsSpare v.engine.pager.spare) (g.contents dev) (g.contents (device_of v))
+  slots_started how dev a v r reads h = subst (λ (s : List Bool). StaysBut (IsSpare s) (g.contents dev) (g.contents (device_of v))) (sym h.early.spare) (slots_start how dev a v r reads h)
 
-  pub replays_start : {T : Type 0} (dev : D) (a v : Volume D) (r : Result T Fault) → OnlyReads g dev (device_of a) → IsOnly (g.contents (device_of a)) (left_now g (device_of a)) → IfSome (g.contents dev) (IsStoredBy g a.engine) → ReplaysEarly g a v r → OnlyStarts g dev (device_of v)
-  replays_start dev a v r reads only stored h = record {
+  pub replays_start : {T : Type 0} (how : Replay) (dev : D) (a v : Volume D) (r : Result T Fault) → OnlyReads g dev (device_of a) → IsOnly (g.contents (device_of a)) (left_now g (device_of a)) → IfSome (g.contents dev) (IsStoredBy g a.engine) → ReplaysEarly g how a v r → OnlyStarts g dev (device_of v)
+  replays_start how dev a v r reads only stored h = record {
     stays = stays_then (reads_stay reads) h.early.stays;
-    slots = stays_unheld g a.engine (g.contents dev) (g.contents (device_of v)) stored (slots_start dev a v r reads h);
+    slots = stays_unheld g a.engine (g.contents dev) (g.contents (device_of v)) stored (slots_start how dev a v r reads h);
     time = λ t n stands. goes_on (ImageStandsFor t n) (IsAsBefore (left_now g (device_of a))) (within Nothing (ImageStandsFor t n) reads.time (λ c none. absurd none)) h.early.time
         (as_stands (g.contents dev) (g.contents (device_of a)) (left_now g (device_of a)) t n reads.kept only stands);
     write_faults = elim (stop_faults a v r h.stop) [ inl same ↦ inl (same ∙ reads.write_faults) | inr one ↦ inr (one ∙ ap next_count reads.write_faults) ];
   }
 
-  pub replays_started : {T : Type 0} (dev : D) (a v : Volume D) (r : Result T Fault) (t : Tree) (n : ℕ) → OnlyReads g dev (device_of a) → IsOnly (g.contents (device_of a)) (left_now g (device_of a)) → HasSettled g dev (device_of a) → ReplaysEarly g a v r
+  pub replays_started : {T : Type 0} (how : Replay) (dev : D) (a v : Volume D) (r : Result T Fault) (t : Tree) (n : ℕ) → OnlyReads g dev (device_of a) → IsOnly (g.contents (device_of a)) (left_now g (device_of a)) → HasSettled g dev (device_of a) → ReplaysEarly g how a v r
       → IsSomeAnd (g.contents dev) (ImageStandsFor t n) → HasStarted g dev (device_of v) t n
-  replays_started dev a v r t n reads only settled h stands = record {
+  replays_started how dev a v r t n reads only settled h stands = record {
     called = omega (arith, settled.called, h.early.time.later);
     each = λ c was. elim (h.early.time.adds (g.call_count dev + 1) c settled.called was) [
       | inl before ↦ (settled_starts dev (device_of a) t n settled stands).each c before

@@ -1,5 +1,6 @@
 pub mod Faults
 pub mod Reclaims
+pub mod Rehearsals
 pub mod Replays
 pub mod Starts
 pub mod Steps

@@ -8,7 +8,7 @@ use Rattle.bd_message.specs.declared.fault.Counter.{Counter}
 use Rattle.bd_message.specs.declared.fault.Counter.TheVariants.{Count, NextId, Level, Refs, Epoch, Flushes}
 use Rattle.bd_represent.specs.Represents.{Represents}
 use Rattle.bd_device.specs.Changes.{StaysBut}
-use Rattle.bd_device.specs.Device.{left_now, Goes, Stays, LastFailed}
+use Rattle.bd_device.specs.Device.{left_now, Goes, OnlyReads, Stays, LastFailed}
 use Rattle.bd_device.specs.declared.device.Device.{Ghosts}
 use Rattle.bd_dirs.specs.Sendings.{Sending}
 use Rattle.bd_dirs.specs.declared.plan.Plan.{Plan}
@@ -27,6 +27,8 @@ use Rattle.bd_engine.specs.Engines.{EngineState, keys_of, IsSoundOn, IsBadOn}
 use Rattle.bd_volume.specs.declared.fault.Fault.{Fault}
 use Rattle.bd_volume.specs.declared.fault.Fault.TheVariants.{Device, Damaged, Worn, NoMemory, Full, Stopped}
 use Rattle.bd_volume.specs.declared.volume.Volume.{Volume}
+use Rattle.bd_volume.specs.declared.volume.replaying.Replay.{Replay}
+use Rattle.bd_volume.specs.declared.volume.replaying.Replay.TheVariants.{WritesNothing}
 use Rattle.bd_volume.specs.Faults.{HasNotFailed, IsStoppedRightly}
 use Rattle.bd_volume.specs.Volume.{view_of, count_of, device_of}
 use Rattle.bd_volume.specs.Steps.{ShowsFault}
@@ -59,22 +61,24 @@ pub record KeepsGood {D : Type 0} (g : Ghosts D) (old new : EngineState D) : Typ
 
 -- nothing was written but nodes, early, to slots that the last checkpoint doesn't hold: log and last
 -- checkpoint stay, and an image that a crash leaves, inside the calls or after them, stands for all
--- that one of before stood for
-pub record OnlyEarly {D : Type 0} (g : Ghosts D) (old new : EngineState D) : Type 0 where
+-- that one of before stood for; and where nothing is to be written the device was only read
+pub record OnlyEarly {D : Type 0} (g : Ghosts D) (how : Replay) (old new : EngineState D)
+    : Type 0 where
   pub time : Goes g old.pager.dev new.pager.dev (IsAsBefore (left_now g old.pager.dev))
   pub kept : AllAsBefore (left_now g old.pager.dev) (left_now g new.pager.dev)
   pub slots : StaysBut (IsSpare old.pager.spare) (g.contents old.pager.dev)
       (g.contents new.pager.dev)
   pub good : KeepsGood g old new
+  pub quiet : how ≡ WritesNothing → OnlyReads g old.pager.dev new.pager.dev
   pub stays : Stays g old.pager.dev new.pager.dev
   pub spare : new.pager.spare ≡ old.pager.spare
   pub log : new.log ≡ old.log
   pub live : new.live ≡ old.live
 
 -- so it was, and a failed write alone stopped the volume
-pub record ReplaysEarly {D T : Type 0} (g : Ghosts D) (old new : Volume D)
+pub record ReplaysEarly {D T : Type 0} (g : Ghosts D) (how : Replay) (old new : Volume D)
     (result : Result T Fault) : Type 0 where
-  pub early : OnlyEarly g old.engine new.engine
+  pub early : OnlyEarly g how old.engine new.engine
   pub stop : IsStoppedRightly g old new result
 
 -- ---- one command

@@ -29,6 +29,7 @@ ghost use Rattle.bd_volume.specs.Wears.{Wears, ShowsWorn, WearsReplaying, HasBeg
 mod executing;
 mod readying;
 mod reclaiming;
+mod rehearsing;
 mod replaying;
 mod saving;
 
@@ -40,6 +41,7 @@ use bd_device::Device;
 use bd_engine::{Engine, Opened};
 use bd_graft::Walk;
 use bd_io::Failed;
+use replaying::Replay;
 use std::alloc::Global;
 
 /// A tree of directories and files, kept in the nodes of an image on a device, with the number of
@@ -105,7 +107,7 @@ impl<D: Device> Volume<D> {
         engine.sound_nodes_are_undamaged();
         let count = engine.saved_count();
         let mut volume = Volume { engine, count };
-        match volume.replay(&commands) {
+        match volume.replay(Replay::Spills, &commands) {
             Ok(()) => Ok(volume.forget_walk()),
             Err(fault) => Err(Unstarted {
                 fault,

@@ -252,9 +252,10 @@ impl<D: Device> Volume<D> {
     {
         match change {
             Reclaim::Shrink { .. } | Reclaim::Push { .. } => true,
-            Reclaim::Drop { .. } | Reclaim::Redirect { .. } | Reclaim::Bare { .. } => {
-                self.engine.edge_need() <= self.engine.free()
-            }
+            Reclaim::Drop { .. }
+            | Reclaim::Redirect { .. }
+            | Reclaim::Bare { .. }
+            | Reclaim::Trim { .. } => self.engine.edge_need() <= self.engine.free(),
         }
     }
 }
@@ -268,6 +269,7 @@ fn pushes_after(pushes: u64, change: &Reclaim) -> u64
         Reclaim::Shrink { .. }
         | Reclaim::Drop { .. }
         | Reclaim::Redirect { .. }
-        | Reclaim::Bare { .. } => pushes,
+        | Reclaim::Bare { .. }
+        | Reclaim::Trim { .. } => pushes,
     }
 }

@@ -28,9 +28,18 @@ use bd_effects::waiting_limit;
 use bd_limits::MAX_FLUSHES;
 use bd_message::{Counter, Message};
 
+/// Whether a replay writes nodes.
+#[derive(Clone, Copy)]
+pub(crate) enum Replay {
+    /// Changed nodes are written early, to slots that the last checkpoint doesn't hold.
+    Spills,
+    /// Nothing is written: all changed nodes stay in memory.
+    WritesNothing,
+}
+
 impl<D: Device> Volume<D> {
     // Replays the commands of open batches, one after the other. No record waits again.
-    pub(crate) fn replay(&mut self, commands: &[PlacedCommand]) -> Result<(), Fault>
+    pub(crate) fn replay(&mut self, how: Replay, commands: &[PlacedCommand]) -> Result<(), Fault>
         requires logged { All (λ p. IsLogged p.command) commands.now }
         requires going { stop_of self.old ≡ None }
         ensures replays { OnOk result
@@ -39,11 +48,11 @@ impl<D: Device> Volume<D> {
             StopsReplaying D.Device fault commands.now self.old) }
         ensures shows { IfErr result (λ fault.
             ShowsReplay D.Device fault commands.now self.old self.new) }
-        ensures writes { ReplaysEarly D.Device self.old self.new result }
+        ensures writes { ReplaysEarly D.Device how self.old self.new result }
         ensures cause { HasReplayCause D.Device self.old self.new result }
     {
         for placed in commands {
-            self.replay_one(placed)?;
+            self.replay_one(how, placed)?;
         }
         Ok(())
     }
@@ -60,7 +69,7 @@ impl<D: Device> Volume<D> {
     }
 
     // Replays a command: it is planned, makes its flush steps, and sends what it comes to.
-    fn replay_one(&mut self, placed: &PlacedCommand) -> Result<(), Fault>
+    fn replay_one(&mut self, how: Replay, placed: &PlacedCommand) -> Result<(), Fault>
         requires logged { IsLogged placed.now.command }
         requires going { stop_of self.old ≡ None }
         ensures replays { (t : Tree) → HasTreeOn D.Device self.old t
@@ -73,20 +82,20 @@ impl<D: Device> Volume<D> {
         ensures shows { IfErr result (λ fault. ShowsFault D.Device fault (count_of self.old)
             self.old.engine.flushes placed.now.command self.new.engine) }
         ensures few { self.new.engine.flushes ≤ self.old.engine.flushes + flush_limit }
-        ensures writes { ReplaysEarly D.Device self.old self.new result }
+        ensures writes { ReplaysEarly D.Device how self.old self.new result }
         ensures cause { HasReplayCause D.Device self.old self.new result }
     {
         if self.count == u64::MAX {
             return Err(Fault::Worn(Counter::Count));
         }
         let plan = self.engine.plan(&placed.command)?;
-        self.send_planned(placed, plan)?;
+        self.send_planned(how, placed, plan)?;
         self.count += 1;
         Ok(())
     }
 
     // Does what is planned for a command of the log.
-    fn send_planned(&mut self, placed: &PlacedCommand, plan: Plan) -> Result<(), Fault>
+    fn send_planned(&mut self, how: Replay, placed: &PlacedCommand, plan: Plan) -> Result<(), Fault>
         requires logged { IsLogged placed.now.command }
         requires ready { IsReady plan }
         requires kind { IsPlanKind placed.now.command plan }
@@ -101,7 +110,7 @@ impl<D: Device> Volume<D> {
         ensures shows { IfErr result (λ fault. ShowsFault D.Device fault (count_of self.old)
             self.old.engine.flushes placed.now.command self.new.engine) }
         ensures few { self.new.engine.flushes ≤ self.old.engine.flushes + flush_limit }
-        ensures writes { ReplaysEarly D.Device self.old self.new result }
+        ensures writes { ReplaysEarly D.Device how self.old self.new result }
         ensures cause { HasReplayCause D.Device self.old self.new result }
         ensures count_stays { count_of self.new ≡ count_of self.old }
     {
@@ -109,16 +118,21 @@ impl<D: Device> Volume<D> {
             Plan::Refused(_) => Err(Fault::Damaged {
                 block: placed.block,
             }),
-            Plan::Apply(list) => self.append_again(&placed.command, list.as_slice()),
+            Plan::Apply(list) => self.append_again(how, &placed.command, list.as_slice()),
             Plan::Graft { s, d, keep } => {
-                self.graft_again(&placed.command, s.as_slice(), d.as_slice(), keep)
+                self.graft_again(how, &placed.command, s.as_slice(), d.as_slice(), keep)
             }
         }
     }
 
     // Makes the flush steps of a command of the log, and puts its messages after those that wait in
     // the root.
-    fn append_again(&mut self, command: &Command, list: &[Message]) -> Result<(), Fault>
+    fn append_again(
+        &mut self,
+        how: Replay,
+        command: &Command,
+        list: &[Message],
+    ) -> Result<(), Fault>
         requires logged { IsLogged command.now }
         requires small { IsSmallBatch list.now }
         requires going { stop_of self.old ≡ None }
@@ -134,17 +148,18 @@ impl<D: Device> Volume<D> {
         ensures shows { IfErr result (λ fault. ShowsFault D.Device fault (count_of self.old)
             self.old.engine.flushes command.now self.new.engine) }
         ensures few { self.new.engine.flushes ≤ self.old.engine.flushes + flush_limit }
-        ensures writes { ReplaysEarly D.Device self.old self.new result }
+        ensures writes { ReplaysEarly D.Device how self.old self.new result }
         ensures cause { HasReplayCause D.Device self.old self.new result }
         ensures count_stays { count_of self.new ≡ count_of self.old }
     {
-        self.flush_again(command, None)?;
+        self.flush_again(how, command, None)?;
         Ok(self.engine.append(list)?)
     }
 
     // Makes the flush steps of a command of the log, and its graft.
     fn graft_again(
         &mut self,
+        how: Replay,
         command: &Command,
         s: &[u8],
         d: &[u8],
@@ -167,17 +182,22 @@ impl<D: Device> Volume<D> {
         ensures shows { IfErr result (λ fault. ShowsFault D.Device fault (count_of self.old)
             self.old.engine.flushes command.now self.new.engine) }
         ensures few { self.new.engine.flushes ≤ self.old.engine.flushes + flush_limit }
-        ensures writes { ReplaysEarly D.Device self.old self.new result }
+        ensures writes { ReplaysEarly D.Device how self.old self.new result }
         ensures cause { HasReplayCause D.Device self.old self.new result }
         ensures count_stays { count_of self.new ≡ count_of self.old }
     {
-        self.flush_again(command, Some(s))?;
+        self.flush_again(how, command, Some(s))?;
         Ok(self.engine.graft(s, d, keep)?)
     }
 
     // Makes flush steps while more bytes wait in the root than the limit of a command of the log, or
     // before a graft 1,024 bytes or more for its source on the way of that. They need no slots.
-    fn flush_again(&mut self, command: &Command, source: Option<&[u8]>) -> Result<(), Fault>
+    fn flush_again(
+        &mut self,
+        how: Replay,
+        command: &Command,
+        source: Option<&[u8]>,
+    ) -> Result<(), Fault>
         requires logged { IsLogged command.now }
         requires source { IsSourceFor command.now (option_copied source) }
         requires going { stop_of self.old ≡ None }
@@ -196,13 +216,13 @@ impl<D: Device> Volume<D> {
         ensures few { self.new.engine.flushes ≤ self.old.engine.flushes + flush_limit }
         ensures enough { OnOk result
             ((table_of self.new.engine.pager).size ≤ waiting_limit command.now) }
-        ensures writes { ReplaysEarly D.Device self.old self.new result }
+        ensures writes { ReplaysEarly D.Device how self.old self.new result }
         ensures cause { HasReplayCause D.Device self.old self.new result }
         ensures count_stays { count_of self.new ≡ count_of self.old }
     {
         let _ = self.engine.flushes();
         for _made in 0..MAX_FLUSHES {
-            if !self.flush_once(command, source)? {
+            if !self.flush_once(how, command, source)? {
                 return Ok(());
             }
         }
@@ -212,10 +232,15 @@ impl<D: Device> Volume<D> {
         Err(Fault::Worn(Counter::Flushes))
     }
 
-    // Writes changed nodes early, makes a flush step where more bytes wait in the root than the limit
-    // of a command of the log, and else, before a graft, where 1,024 bytes or more wait for its source
-    // on the way of that, and says whether it did.
-    fn flush_once(&mut self, command: &Command, source: Option<&[u8]>) -> Result<bool, Fault>
+    // Writes changed nodes early where it may, makes a flush step where more bytes wait in the root
+    // than the limit of a command of the log, and else, before a graft, where 1,024 bytes or more
+    // wait for its source on the way of that, and says whether it did.
+    fn flush_once(
+        &mut self,
+        how: Replay,
+        command: &Command,
+        source: Option<&[u8]>,
+    ) -> Result<bool, Fault>
         requires logged { IsLogged command.now }
         requires source { IsSourceFor command.now (option_copied source) }
         requires going { stop_of self.old ≡ None }
@@ -238,11 +263,30 @@ impl<D: Device> Volume<D> {
             ≡ flushes_after self.old.engine.flushes result }
         ensures enough { result ≡ Ok false
             → (table_of self.new.engine.pager).size ≤ waiting_limit command.now }
-        ensures writes { ReplaysEarly D.Device self.old self.new result }
+        ensures writes { ReplaysEarly D.Device how self.old self.new result }
         ensures cause { HasReplayCause D.Device self.old self.new result }
         ensures count_stays { count_of self.new ≡ count_of self.old }
     {
-        self.spill()?;
+        self.make_space(how)?;
         Ok(self.engine.flush(command, source)?)
+    }
+
+    // Writes changed nodes early, as `spill` does, where it may.
+    fn make_space(&mut self, how: Replay) -> Result<(), Fault>
+        requires { stop_of self.old ≡ None }
+        ensures view { IsSoundOn D.Device self.old.engine
+            → view_of D.Device self.new ≡ view_of D.Device self.old }
+        ensures sound { IsSoundOn D.Device self.old.engine
+            → IsSoundOn D.Device self.new.engine }
+        ensures kind { IfErr result (λ fault. fault ≡ Fault.Device) }
+        ensures writes { ReplaysEarly D.Device how self.old self.new result }
+        ensures cause { HasReplayCause D.Device self.old self.new result }
+        ensures flushes { self.new.engine.flushes ≡ self.old.engine.flushes }
+        ensures count_stays { count_of self.new ≡ count_of self.old }
+    {
+        match how {
+            Replay::Spills => self.spill(),
+            Replay::WritesNothing => Ok(()),
+        }
     }
 }

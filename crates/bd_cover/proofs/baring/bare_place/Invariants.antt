@@ -1,4 +1,5 @@
-use Rattle.std.proofs.Common.{◌≡◌, ◌+◌, ◌≤◌, length}
+use Rattle.std.proofs.Common.{◌≡◌, ◌+◌, ◌*◌, ◌≤◌, length}
+use Rattle.bd_cover.specs.Bare.{look_limit}
 use Rattle.bd_cover.proofs.Bared.{NoBareBefore}
 use Rattle.bd_cover.proofs.baring.bare_place.Given as goal
 
@@ -11,6 +12,6 @@ invariant-loop-place g l = record {
   read : g.S.NodeStore.reads l.fn.store l.store;
   faults : g.S.NodeStore.fault_count l.store ≡ g.S.NodeStore.fault_count l.fn.store;
   loans : g.S.NodeStore.loans l.store ≡ g.S.NodeStore.loans l.fn.store;
-  visits : g.S.NodeStore.visit_count l.store ≤ g.S.NodeStore.visit_count l.fn.store + l.place;
+  visits : g.S.NodeStore.visit_count l.store ≤ g.S.NodeStore.visit_count l.fn.store + look_limit * l.place;
   none : g.S.NodeStore.is_known l.fn.store → NoBareBefore (g.S.NodeStore.nodes l.fn.store) l.here.node.value l.place;
 }

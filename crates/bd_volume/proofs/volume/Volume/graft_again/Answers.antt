@@ -31,8 +31,8 @@ pub returns-in_err-graft-clause-writes : goal.returns-in_err-graft-clause-writes
 returns-in_err-graft-clause-writes g c =
     let a : Volume g.row.D.Denot = c.flush_again.new.self in
     let b : Volume g.row.D.Denot = record a { engine = c.graft.new.self } in
-    let first = goes_ok g.D.Device c.args.self.now a _ c.in_ok-flush_again.ensures.writes in
-    early_goes g.D.Device c.args.self.now b _ (goes_both g.D.Device c.args.self.now a b first (goes_nodes g.D.Device a b (g.met.D.Device.since_earlier b.engine.pager.dev) first.going.stop_is c.in_err-graft.ensures.only))
+    let first = goes_ok g.D.Device c.args.how c.args.self.now a _ c.in_ok-flush_again.ensures.writes in
+    early_goes g.D.Device c.args.how c.args.self.now b _ (goes_both g.D.Device c.args.how c.args.self.now a b first (goes_nodes g.D.Device c.args.how a b (g.met.D.Device.since_earlier b.engine.pager.dev) first.going.stop_is c.in_err-graft.ensures.only))
 
 pub returns-in_err-graft-clause-cause : goal.returns-in_err-graft-clause-cause
 returns-in_err-graft-clause-cause g c =
@@ -58,8 +58,8 @@ pub returns-clause-writes : goal.returns-clause-writes
 returns-clause-writes g c =
     let a : Volume g.row.D.Denot = c.flush_again.new.self in
     let b : Volume g.row.D.Denot = record a { engine = c.graft.new.self } in
-    let first = goes_ok g.D.Device c.args.self.now a _ c.in_ok-flush_again.ensures.writes in
-    early_goes g.D.Device c.args.self.now b _ (goes_both g.D.Device c.args.self.now a b first (goes_nodes g.D.Device a b (g.met.D.Device.since_earlier b.engine.pager.dev) first.going.stop_is c.in_ok-graft.ensures.only))
+    let first = goes_ok g.D.Device c.args.how c.args.self.now a _ c.in_ok-flush_again.ensures.writes in
+    early_goes g.D.Device c.args.how c.args.self.now b _ (goes_both g.D.Device c.args.how c.args.self.now a b first (goes_nodes g.D.Device c.args.how a b (g.met.D.Device.since_earlier b.engine.pager.dev) first.going.stop_is c.in_ok-graft.ensures.only))
 
 pub returns-clause-cause : goal.returns-clause-cause
 returns-clause-cause g c =

@@ -10,7 +10,7 @@ use Rattle.bd_volume.proofs.volume.Volume.replay.Goals as goal
 pub loop-placed-init : goal.loop-placed-init
 loop-placed-init g c = record {
   front = front_none g.D.Device c.args.commands.now c.args.self.now;
-  goes = goes_none g.D.Device c.args.self.now c.requires.going;
+  goes = goes_none g.D.Device c.args.how c.args.self.now c.requires.going;
   faults = refl;
 }
 
@@ -28,7 +28,7 @@ loop-placed-preserved g c =
     record {
       front = front_more g.D.Device list (drop (at + 1) list) c.placed-item.result c.args.self.now c.loop-placed.self c.replay_one.new.self (front_same g.D.Device list (drop at list) (c.placed-item.result ∷ drop (at + 1) list) c.args.self.now c.loop-placed.self next i.front)
           h.writes.early.good h.sound h.replays h.counts h.few;
-      goes = goes_both g.D.Device c.args.self.now c.loop-placed.self c.replay_one.new.self i.goes (goes_ok g.D.Device c.loop-placed.self c.replay_one.new.self _ h.writes);
+      goes = goes_both g.D.Device c.args.how c.args.self.now c.loop-placed.self c.replay_one.new.self i.goes (goes_ok g.D.Device c.args.how c.loop-placed.self c.replay_one.new.self _ h.writes);
       faults = h.cause.kept ∙ i.faults;
     }
 
@@ -49,7 +49,7 @@ returns-in_err-replay_one-clause-fails g c =
 pub returns-in_err-replay_one-clause-writes : goal.returns-in_err-replay_one-clause-writes
 returns-in_err-replay_one-clause-writes g c =
     let p = err_from_is_err_and c.from_residual.result c.from_residual.ensures.1 in
-    rw (p.1, p.2) (early_fails g.D.Device c.args.self.now c.loop-placed.self c.replay_one.new.self c.in_err-replay_one.field-0.0 c.loop-placed.invariant.goes c.loop-placed.invariant.faults c.in_err-replay_one.ensures.writes)
+    rw (p.1, p.2) (early_fails g.D.Device c.args.how c.args.self.now c.loop-placed.self c.replay_one.new.self c.in_err-replay_one.field-0.0 c.loop-placed.invariant.goes c.loop-placed.invariant.faults c.in_err-replay_one.ensures.writes)
 
 pub returns-in_err-replay_one-clause-cause : goal.returns-in_err-replay_one-clause-cause
 returns-in_err-replay_one-clause-cause g c =
@@ -67,7 +67,7 @@ pub returns-clause-cause : goal.returns-clause-cause
 returns-clause-cause g c = cause_ok g.D.Device c.args.self.now c.loop-placed.self _ c.loop-placed.invariant.faults
 
 pub returns-clause-writes : goal.returns-clause-writes
-returns-clause-writes g c = early_goes g.D.Device c.args.self.now c.loop-placed.self _ c.loop-placed.invariant.goes
+returns-clause-writes g c = early_goes g.D.Device c.args.how c.args.self.now c.loop-placed.self _ c.loop-placed.invariant.goes
 
 pub returns-in_err-replay_one-clause-shows : goal.returns-in_err-replay_one-clause-shows
 returns-in_err-replay_one-clause-shows g c =

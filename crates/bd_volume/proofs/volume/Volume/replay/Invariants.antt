@@ -8,6 +8,6 @@ use Rattle.bd_volume.proofs.volume.Volume.replay.Given as goal
 abbrev pub invariant-loop-placed : goal.invariant-loop-placed
 invariant-loop-placed g l = record {
   front : ReplaysFront g.D.Device l.commands (drop l.placed-index l.commands) l.fn.self l.self;
-  goes : GoesEarly g.D.Device l.fn.self l.self;
+  goes : GoesEarly g.D.Device l.how l.fn.self l.self;
   faults : HasNotFailed g.D.Device l.fn.self l.self;
 }

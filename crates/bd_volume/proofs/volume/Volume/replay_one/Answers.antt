@@ -18,7 +18,7 @@ pub returns-then-self-clause-fails : goal.returns-then-self-clause-fails
 returns-then-self-clause-fails g c = λ s. count_again g.D.Device c.args.self.now.count c.args.placed.now.command (view_of g.D.Device c.args.self.now) (omega arith)
 
 pub returns-then-self-clause-writes : goal.returns-then-self-clause-writes
-returns-then-self-clause-writes g c = early_goes g.D.Device c.args.self.now c.args.self.now _ (goes_none g.D.Device c.args.self.now c.requires.going)
+returns-then-self-clause-writes g c = early_goes g.D.Device c.args.how c.args.self.now c.args.self.now _ (goes_none g.D.Device c.args.how c.args.self.now c.requires.going)
 
 pub returns-then-self-clause-cause : goal.returns-then-self-clause-cause
 returns-then-self-clause-cause g c = cause_worn g.D.Device c.args.self.now c.args.self.now _ refl
@@ -35,7 +35,7 @@ pub returns-in_err-plan-clause-writes : goal.returns-in_err-plan-clause-writes
 returns-in_err-plan-clause-writes g c =
     let a : Volume g.row.D.Denot = c.args.self.now in
     let b : Volume g.row.D.Denot = record a { engine = c.plan.new.self } in
-    early_goes g.D.Device a b _ (goes_read g.D.Device a b (g.met.D.Device.since_earlier b.engine.pager.dev) c.requires.going c.in_err-plan.ensures.read)
+    early_goes g.D.Device c.args.how a b _ (goes_read g.D.Device c.args.how a b (g.met.D.Device.since_earlier b.engine.pager.dev) c.requires.going c.in_err-plan.ensures.read)
 
 pub returns-in_err-plan-clause-cause : goal.returns-in_err-plan-clause-cause
 returns-in_err-plan-clause-cause g c =
@@ -56,7 +56,7 @@ returns-in_err-send_planned-clause-writes g c =
     let a : Volume g.row.D.Denot = c.args.self.now in
     let b : Volume g.row.D.Denot = record a { engine = c.plan.new.self } in
     let p = err_from_is_err_and c.from_residual-in_err-send_planned.result c.from_residual-in_err-send_planned.ensures.1 in
-    rw (p.1, p.2) (early_fails g.D.Device a b c.send_planned.new.self c.in_err-send_planned.field-0.0 (goes_read g.D.Device a b (g.met.D.Device.since_earlier b.engine.pager.dev) c.requires.going c.in_ok-plan.ensures.read) c.in_ok-plan.ensures.cause.kept c.in_err-send_planned.ensures.writes)
+    rw (p.1, p.2) (early_fails g.D.Device c.args.how a b c.send_planned.new.self c.in_err-send_planned.field-0.0 (goes_read g.D.Device c.args.how a b (g.met.D.Device.since_earlier b.engine.pager.dev) c.requires.going c.in_ok-plan.ensures.read) c.in_ok-plan.ensures.cause.kept c.in_err-send_planned.ensures.writes)
 
 pub returns-in_err-send_planned-clause-cause : goal.returns-in_err-send_planned-clause-cause
 returns-in_err-send_planned-clause-cause g c =
@@ -84,8 +84,8 @@ returns-clause-writes g c =
     let a : Volume g.row.D.Denot = c.args.self.now in
     let b : Volume g.row.D.Denot = record a { engine = c.plan.new.self } in
     let d : Volume g.row.D.Denot = c.send_planned.new.self in
-    let read = goes_read g.D.Device a b (g.met.D.Device.since_earlier b.engine.pager.dev) c.requires.going c.in_ok-plan.ensures.read in
-    early_goes g.D.Device a (record d { count = d.count + 1 }) _ (goes_counted g.D.Device a d (d.count + 1) (goes_both g.D.Device a b d read (goes_ok g.D.Device b d _ c.in_ok-send_planned.ensures.writes)))
+    let read = goes_read g.D.Device c.args.how a b (g.met.D.Device.since_earlier b.engine.pager.dev) c.requires.going c.in_ok-plan.ensures.read in
+    early_goes g.D.Device c.args.how a (record d { count = d.count + 1 }) _ (goes_counted g.D.Device c.args.how a d (d.count + 1) (goes_both g.D.Device c.args.how a b d read (goes_ok g.D.Device c.args.how b d _ c.in_ok-send_planned.ensures.writes)))
 
 pub returns-clause-cause : goal.returns-clause-cause
 returns-clause-cause g c =

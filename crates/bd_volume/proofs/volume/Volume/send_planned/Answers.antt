@@ -9,7 +9,7 @@ pub returns-in-Refused-clause-fails : goal.returns-in-Refused-clause-fails
 returns-in-Refused-clause-fails g c = inl (refl, ap accepts c.in-Refused.is)
 
 pub returns-in-Refused-clause-writes : goal.returns-in-Refused-clause-writes
-returns-in-Refused-clause-writes g c = early_goes g.D.Device c.args.self.now c.args.self.now _ (goes_none g.D.Device c.args.self.now c.requires.going)
+returns-in-Refused-clause-writes g c = early_goes g.D.Device c.args.how c.args.self.now c.args.self.now _ (goes_none g.D.Device c.args.how c.args.self.now c.requires.going)
 
 pub returns-in-Refused-clause-cause : goal.returns-in-Refused-clause-cause
 returns-in-Refused-clause-cause g c = cause_damaged g.D.Device c.args.self.now c.args.self.now _ refl

@@ -11,6 +11,7 @@ use Rattle.bd_pager.specs.Slots.{IsSpare}
 use Rattle.bd_checkpoint.specs.declared.commands.PlacedCommand.{PlacedCommand}
 use Rattle.bd_checkpoint.specs.Recovering.{FailsFirst}
 use Rattle.bd_volume.specs.declared.volume.Volume.{Volume}
+use Rattle.bd_volume.specs.declared.volume.replaying.Replay.TheVariants.{Spills}
 use Rattle.bd_volume.specs.Replays.{ReplaysFront, StopsReplaying, ShowsReplay}
 use Rattle.bd_volume.specs.Starts.{OnlyStarts, HasStarted}
 use Rattle.bd_volume.specs.Unstarted.{device_left}
@@ -47,7 +48,7 @@ returns-in-Ok-clause-stands g c = λ t n h.
     let a : Volume g.row.D.Denot = record { engine = c.in_ok-engine.field-0.engine; count = c.saved_count-count.result } in
     let k = c.in-Ok.ensures in
     subst (λ (w : Volume g.row.D.Denot). StandsFor g.D.Device w t n) (sym c.forget_walk.ensures)
-    (without_walk_stands g.D.Device c.replay.new.self t n (started_for g.D.Device c.args.device a c.replay.new.self e.fresh _ c.in_ok-engine.field-0.commands.items t n c.saved_count-count.ensures e.idle e.reads e.only k.writes (subst (λ (l : List PlacedCommand). ReplaysFront g.D.Device l [] a c.replay.new.self) c.deref.ensures.value k.replays) (e.replay t n h) h))
+    (without_walk_stands g.D.Device c.replay.new.self t n (started_for g.D.Device Spills c.args.device a c.replay.new.self e.fresh _ c.in_ok-engine.field-0.commands.items t n c.saved_count-count.ensures e.idle e.reads e.only k.writes (subst (λ (l : List PlacedCommand). ReplaysFront g.D.Device l [] a c.replay.new.self) c.deref.ensures.value k.replays) (e.replay t n h) h))
 
 pub returns-in-Ok-clause-first : goal.returns-in-Ok-clause-first
 returns-in-Ok-clause-first g c =
@@ -69,20 +70,20 @@ returns-in-Ok-clause-started g c = λ t n stands.
     let e = c.in_ok-engine.ensures in
     let a : Volume g.row.D.Denot = record { engine = c.in_ok-engine.field-0.engine; count = c.saved_count-count.result } in
     subst (λ (w : Volume g.row.D.Denot). HasStarted g.D.Device c.args.device (device_of w) t n) (sym c.forget_walk.ensures)
-    (replays_started g.D.Device c.args.device a c.replay.new.self _ t n e.reads e.only e.settled c.in-Ok.ensures.writes stands)
+    (replays_started g.D.Device Spills c.args.device a c.replay.new.self _ t n e.reads e.only e.settled c.in-Ok.ensures.writes stands)
 
 pub returns-in-Ok-clause-only : goal.returns-in-Ok-clause-only
 returns-in-Ok-clause-only g c =
     let e = c.in_ok-engine.ensures in
     let a : Volume g.row.D.Denot = record { engine = c.in_ok-engine.field-0.engine; count = c.saved_count-count.result } in
     subst (λ (w : Volume g.row.D.Denot). OnlyStarts g.D.Device c.args.device (device_of w)) (sym c.forget_walk.ensures)
-    (replays_start g.D.Device c.args.device a c.replay.new.self _ e.reads e.only e.stored c.in-Ok.ensures.writes)
+    (replays_start g.D.Device Spills c.args.device a c.replay.new.self _ e.reads e.only e.stored c.in-Ok.ensures.writes)
 
 pub returns-in-Ok-clause-slots : goal.returns-in-Ok-clause-slots
 returns-in-Ok-clause-slots g c =
     let a : Volume g.row.D.Denot = record { engine = c.in_ok-engine.field-0.engine; count = c.saved_count-count.result } in
     subst (λ (w : Volume g.row.D.Denot). StaysBut (IsSpare w.engine.pager.spare) (g.D.Device.contents c.args.device) (g.D.Device.contents (device_of w))) (sym c.forget_walk.ensures)
-    (slots_started g.D.Device c.args.device a c.replay.new.self _ c.in_ok-engine.ensures.reads c.in-Ok.ensures.writes)
+    (slots_started g.D.Device Spills c.args.device a c.replay.new.self _ c.in_ok-engine.ensures.reads c.in-Ok.ensures.writes)
 
 pub returns-in-Ok-clause-faults : goal.returns-in-Ok-clause-faults
 returns-in-Ok-clause-faults g c =
@@ -126,10 +127,10 @@ pub returns-clause-left : goal.returns-clause-left
 returns-clause-left g c =
     let e = c.in_ok-engine.ensures in
     let a : Volume g.row.D.Denot = record { engine = c.in_ok-engine.field-0.engine; count = c.saved_count-count.result } in
-    replays_start g.D.Device c.args.device a c.replay.new.self _ e.reads e.only e.stored c.in-Err.ensures.writes
+    replays_start g.D.Device Spills c.args.device a c.replay.new.self _ e.reads e.only e.stored c.in-Err.ensures.writes
 
 pub returns-clause-starts : goal.returns-clause-starts
 returns-clause-starts g c = λ some calm t n stands.
     let e = c.in_ok-engine.ensures in
     let a : Volume g.row.D.Denot = record { engine = c.in_ok-engine.field-0.engine; count = c.saved_count-count.result } in
-    replays_started g.D.Device c.args.device a c.replay.new.self _ t n e.reads e.only e.settled c.in-Err.ensures.writes stands
+    replays_started g.D.Device Spills c.args.device a c.replay.new.self _ t n e.reads e.only e.settled c.in-Err.ensures.writes stands
