@@ -5,6 +5,7 @@ from itertools import islice
 
 import convention
 from changes import changes
+from mirrors import read_from
 from nodes import SLOT, Damaged, Image, children, record_at
 from session import Failed, Full, Progress, Refused, below, is_locked
 from sharing import Sharing, Usage
@@ -56,7 +57,7 @@ def looked(session, given, work):
                 if image.is_last():
                     return found
         except Damaged as damaged:
-            with open(session.image, "rb") as file:
+            with open(read_from(session.image), "rb") as file:
                 if not is_locked(file):
                     raise
             damage = damaged

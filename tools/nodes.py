@@ -10,9 +10,9 @@ from bisect import bisect_left, bisect_right
 from functools import cached_property, lru_cache
 from typing import NamedTuple, Optional
 
+from mirrors import BLOCK, FIRST_SLOT, SLOT_BLOCKS, has_mark, read_from
 from session import Failed
 
-BLOCK, SLOT_BLOCKS, FIRST_SLOT = 4_096, 16, 132
 SLOT = SLOT_BLOCKS * BLOCK
 LOG_HALVES, LOG_BLOCKS = (4, 68), 64
 LEAST_SLOTS, MOST_SLOTS, MOST_TABLE_SLOTS, MOST_LEVELS = 24, 65_536, 25, 1_000
@@ -337,7 +337,7 @@ class Image:
     """
 
     def __init__(self, path):
-        self.path, self.file = path, open(path, "rb")
+        self.path, self.file = path, open(read_from(path), "rb")
         self.live = self._superblock()
         self.table = self._table()
         self.waiting = self._waiting()
@@ -364,8 +364,10 @@ class Image:
         return self.bytes_at(block)[0] == 1
 
     def _superblock(self):
-        """The live superblock."""
+        """The live superblock. The last block of a half of a mirror is its mark, and none of the image's."""
         size = os.fstat(self.file.fileno()).st_size
+        if has_mark(size):
+            size -= BLOCK
         if size < (FIRST_SLOT + LEAST_SLOTS * SLOT_BLOCKS) * BLOCK:
             raise self._damaged(0, "is too near to the end")
         found = [self._body(half, size) for half in (0, 1) if self.is_open(2 * half)]

@@ -14,6 +14,8 @@ import time
 from pathlib import Path
 from typing import NamedTuple, Optional
 
+from mirrors import halves, unfit
+
 TOP = Path(__file__).resolve().parent.parent
 PROGRAM = str(TOP / "bin" / "betr")
 CHOOSER = str(TOP / "bin" / "program")
@@ -98,29 +100,39 @@ def has_room(handle):
     return found.st_blocks * 512 >= found.st_size or free * disk.f_frsize >= SLOT
 
 
-def trouble(image):
+# What is told where the system tells no reason.
+FAILED = "the file failed"
+
+
+def trouble(file):
     """Why a file can't be used as an image, by the system; without a reason that it tells, that it failed."""
     try:
-        found = os.stat(image)
+        found = os.stat(file)
         if modes.S_ISDIR(found.st_mode):
             return "is a directory"
         if not modes.S_ISREG(found.st_mode):
             return "is no regular file"
-        handle = os.open(image, os.O_RDWR)
+        handle = os.open(file, os.O_RDWR)
     except OSError as error:
         return reason(error)
     try:
         if is_locked(handle):
             return "is locked by another run"
-        return "the file failed" if has_room(handle) else "no space left on its device"
+        return FAILED if has_room(handle) else "no space left on its device"
     finally:
         os.close(handle)
+
+
+def troubled(image):
+    """The file of an image that can't be used and why, or the image where no file of it has a reason."""
+    found = [(half, trouble(half)) for half in halves(image)]
+    return next((it for it in found if it[1] != FAILED), (image, FAILED))
 
 
 def fault_of(image, status, said):
     """What is told of a run of an image that ended early, with this last line."""
     if said == "fault device":
-        return Failed(f"{image}: {trouble(image)} (fault device)", status, "device")
+        return Failed("{}: {} (fault device)".format(*troubled(image)), status, "device")
     if said.startswith("fault damaged "):
         return Failed(f"{image}: no image, or a damaged one ({said})", status, said[6:])
     if said.startswith("fault "):
@@ -163,9 +175,8 @@ class Session:
 
     def start(self):
         """Begins a run, where there is none."""
-        image = "./" + self.image if self.image.startswith("-") else self.image
         if self.process is None:
-            self.process, self.taken, self.rest = started([chosen(self.program), "run", image]), 0, b""
+            self.process, self.taken, self.rest = started([chosen(self.program), "run", named(self.image)]), 0, b""
 
     def ask(self, lines):
         """The replies to lines, as bytes without newlines. All lines are given at once; those that a run can't take any
@@ -255,6 +266,13 @@ class Session:
             if status != 0:
                 said = written.decode(errors="backslashreplace").strip("\n").split("\n")[-1]
                 raise fault_of(self.image, status, said)
+
+
+def named(image):
+    """An image as a word for the program: not one for an option, and no mirror of files that are no halves."""
+    if (why := unfit(image)) is not None:
+        raise Failed(why)
+    return "./" + image if image.startswith("-") else image
 
 
 def started(words):

@@ -10,9 +10,11 @@ from contextlib import contextmanager
 
 import convention
 import fuse
+from mirrors import halves, has_mark, is_open
 from nodes import SLOT
 from session import (
-    NOT_FOUND, Failed, Progress, Refused, batches, below, chosen, fault_of, names, read, shown, stat, stats, write)
+    NOT_FOUND, WRONG_WORDS, Failed, Progress, Refused, batches, below, chosen, fault_of, named, names, read, reason, shown,
+    stat, stats, write)
 from trees import load, mkdir_parents, unload
 
 # What a refusal says of a path, by its number.
@@ -405,25 +407,60 @@ def reclaim(session, given):
     return 0
 
 
+def called(session, *words):
+    """A call of the program over the image that isn't a run: its status, and the last line that it wrote."""
+    verb, *rest = words
+    done = subprocess.run([chosen(session.program), verb, named(session.image), *rest], stdin=subprocess.DEVNULL,
+                          stdout=subprocess.PIPE, check=False)
+    return done.returncode, done.stdout.decode(errors="backslashreplace").strip("\n").split("\n")[-1]
+
+
 def new(session, given):
     """usage: tools/btr new IMAGE SLOTS
 
     Makes a new file an image of SLOTS slots of 65,536 bytes, 24 to 65,536 of them, or of so many bytes, as 64M or 1G,
-    that holds `/` alone. A file that is there stays as it is.
+    that holds `/` alone. With X+Y as IMAGE it makes both files, as a mirror. A file that is there stays as it is.
     """
-    image = session.image
+    made = []
     try:
-        os.close(os.open(image, os.O_CREAT | os.O_EXCL | os.O_WRONLY, 0o666))
-    except FileExistsError:
-        raise Failed(f"{image}: is there already, and is left as it is") from None
-    name = "./" + image if image.startswith("-") else image
-    done = subprocess.run([chosen(session.program), "format", name, str(given.slots)], stdin=subprocess.DEVNULL,
-                          stdout=subprocess.PIPE, check=False)
-    if done.returncode != 0:
-        os.unlink(image)
-        said = done.stdout.decode(errors="backslashreplace").strip("\n").split("\n")[-1]
-        raise fault_of(image, done.returncode, said)
+        for file in halves(session.image):
+            os.close(os.open(file, os.O_CREAT | os.O_EXCL | os.O_WRONLY, 0o666))
+            made.append(file)
+        status, said = called(session, "format", str(given.slots))
+        if status != 0:
+            raise fault_of(session.image, status, said)
+    except (OSError, Failed) as failure:
+        for file in made:
+            os.unlink(file)
+        if isinstance(failure, FileExistsError):
+            raise Failed(f"{failure.filename}: is there already, and is left as it is") from None
+        raise
     return 0
+
+
+def mark_of(file):
+    """How the mark of a half is, or why that can't be told."""
+    try:
+        if not has_mark(os.path.getsize(file)):
+            return "no half"
+        return "open" if is_open(file) else "closed"
+    except OSError as error:
+        return reason(error)
+
+
+def halves_of(session, given):
+    """usage: tools/btr halves IMAGE
+
+    Tells of each half of a mirror, IMAGE being X+Y, whether its mark is open: then it was used without the other one,
+    which has less or is lost, and the next run of X+Y copies it. Nothing is written. The status is 0 where both are
+    closed: the halves are equal but for what no sync kept. Else it is 1.
+    """
+    files = halves(session.image)
+    if len(files) != 2:
+        raise Failed(f"{session.image}: no two halves, as X+Y", WRONG_WORDS)
+    marks = [mark_of(file) for file in files]
+    print_rows([(mark, file) for mark, file in zip(marks, files)])
+    return 0 if marks == ["closed", "closed"] else 1
 
 
 # ---- in and out

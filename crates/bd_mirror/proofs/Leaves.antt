@@ -1,52 +1,87 @@
 -- What a crash may leave of two halves inside a call that each half in use gets.
-use Rattle.std.proofs.Common.{◌≡◌, ℕ, ◌-◌, ◌<◌, ◌≤◌, ◌⊎◌, min, List, Option, IfSome, Bool, true, false, if◌then◌else◌, Result, Ok, Err, OnOk, refl, sym, ap, subst, ◌∙◌, arith, inl, inr, ⊎_elim, take}
-use Rattle.std.specs.Prelude.{◌&&◌, not, is_ok}
+use Rattle.std.proofs.Common.{◌≡◌, ℕ, ◌+◌, ◌-◌, ◌<◌, ◌≤◌, ◌⊎◌, min, Option, IfSome, Bool, true, false, if◌then◌else◌, Result, Ok, Err, OnOk, refl, sym, ap, subst, ◌∙◌, arith, inl, inr, ⊎_elim, take}
+use Rattle.std.specs.Prelude.{◌&&◌, ◌==◌, not, is_ok, slice_index}
 use Rattle.std.proofs.lemmas.Bool.{false≢true}
 use Rattle.std.proofs.lemmas.List.{take-set-le}
-use Rattle.bd_device.specs.Blocks.{Image, IsBlock}
+use Rattle.std.proofs.Math.Seq.{take-set-lt}
+use Rattle.bd_device.specs.Blocks.{Image}
+use Rattle.bd_device.specs.Changes.{IsInRange}
 use Rattle.bd_device.specs.Moments.{Elapses, TornAt, IsOnly}
 use Rattle.bd_mirror.specs.declared.halves.Halves.TheVariants.{Both, First, Second, Neither}
 use Rattle.bd_mirror.specs.declared.halves.Attached.{Attached}
 use Rattle.bd_mirror.specs.declared.halves.Attached.TheVariants.{Nothing, Alone, Member, Pair, Apart}
 use Rattle.bd_mirror.specs.Contents.{is_open_at, pick, IsMarked, HaveMark, AreLeftMarked, PicksHave, IsPicked}
 use Rattle.bd_mirror.specs.Halves.{has_marks, is_two, halves_of, with_halves, blocks_in}
-use Rattle.bd_mirror.specs.Writing.{IsWithin, image_after, TornBy, IsLeftBy}
+use Rattle.bd_mirror.specs.Writing.{IsWithin, TornBy, IsLeftBy}
 use Rattle.bd_mirror.specs.declared.writing.WritingCall.{WritingCall}
-use Rattle.bd_mirror.specs.declared.writing.WritingCall.TheVariants.{Write, Barrier}
+use Rattle.bd_mirror.specs.declared.writing.WritingCall.TheVariants.{Write, Run, Barrier}
 use Rattle.bd_mirror.proofs.Copies.{only_has}
-use Rattle.bd_mirror.proofs.Marks.{open_after, take_after, within_more, pick_closed, pick_second, both_is, first_is, second_is}
+use Rattle.bd_mirror.proofs.Rows.{same_take}
+use Rattle.bd_mirror.proofs.Marks.{open_after, within_more, pick_closed, pick_second, both_is, first_is, second_is}
 
 -- ---- images
 
--- the image, or with the block that the call writes torn
-abbrev Since : WritingCall → Image → Image → Type 0
-Since call base image = (image ≡ base) ⊎ ((bytes : List ℕ) × IsBlock bytes × (image ≡ image_after call bytes base))
+-- of more images more may be torn
+pub torn_more : (call : WritingCall) (P Q : Image → Type 0) → ((image : Image) → P image → Q image) → (image : Image) → TornBy call P image → TornBy call Q image
+torn_more (Write b from) P Q more image torn = (torn.0, more torn.0 torn.1, torn.2, torn.3, torn.4)
+torn_more (Run first from n) P Q more image torn = (torn.0, more torn.0 torn.1, torn.2)
+torn_more Barrier P Q more image none = absurd none
 
--- the first blocks of one of these images, or with the block that the call writes torn
+-- a torn image was one
+torn_base : (call : WritingCall) (before : Image → Type 0) (image : Image) → TornBy call before image → (base : Image) × before base × TornBy call (λ i. i ≡ base) image
+torn_base (Write b from) before image torn = (torn.0, torn.1, (torn.0, refl, torn.2, torn.3, torn.4))
+torn_base (Run first from n) before image torn = (torn.0, torn.1, (torn.0, refl, torn.2))
+torn_base Barrier before image none = absurd none
+
+-- the first blocks of a torn image are those of one, torn
+pub torn_take : (call : WritingCall) (size : ℕ) (before : Image → Type 0) (image : Image) → IsWithin call size
+    → TornBy call before image → TornBy call (λ i. (base : Image) × before base × (i ≡ take size base)) (take size image)
+torn_take (Write b from) size before image lt torn =
+    (take size torn.0, (torn.0, torn.1, refl), torn.2, torn.3, ap (take size) torn.4 ∙ take-set-lt size torn.0 b torn.2 lt)
+torn_take (Run first from n) size before image lt torn =
+    (take size torn.0, (torn.0, torn.1, refl), same_take (IsInRange first (first + n)) size torn.0 image torn.2)
+torn_take Barrier size before image lt none = absurd none
+
+-- its mark is that of one
+torn_mark : (call : WritingCall) (mark : ℕ) (before : Image → Type 0) (image : Image) → IsWithin call mark
+    → TornBy call before image → (base : Image) × before base × (is_open_at mark image ≡ is_open_at mark base)
+torn_mark (Write b from) mark before image lt torn =
+    (torn.0, torn.1, ap (is_open_at mark) torn.4 ∙ open_after (Write b from) mark (λ _. torn.2) torn.0 lt)
+torn_mark (Run first from n) mark before image lt torn =
+    (torn.0, torn.1, ap (λ block. slice_index block 0 == 1) (torn.2.others mark (λ is. omega (arith, lt, is.1))))
+torn_mark Barrier mark before image lt none = absurd none
+
+-- the image, or with the blocks that the call writes torn
+abbrev Since : WritingCall → Image → Image → Type 0
+Since call base image = IsLeftBy call (λ i. i ≡ base) image
+
+-- the first blocks of one of these images, or with the blocks that the call writes torn
 abbrev pub IsSince : WritingCall → ℕ → (Image → Type 0) → Image → Type 0
 IsSince call size before image = (base : Image) × before base × Since call (take size base) (take size image)
 
 -- what is since one of these images may be left by the call
 since_left : (call : WritingCall) (before : Image → Type 0) (base image : Image) → before base → Since call base image → IsLeftBy call before image
 since_left call before base image was (inl same) = inl (subst before (sym same) was)
-since_left (Write b from) before base image was (inr torn) = inr (base, was, torn.0, torn.1, torn.2)
-since_left Barrier before base image was (inr torn) = inl (subst before (sym torn.2) was)
+since_left call before base image was (inr torn) = inr (torn_more call (λ i. i ≡ base) before (λ i same. subst before (sym same) was) image torn)
 
 -- of what was left or torn by the call
 since_torn : (call : WritingCall) (size : ℕ) (before : Image → Type 0) (image : Image) → IsWithin call size
     → before image ⊎ TornBy call before image → IsSince call size before image
 since_torn call size before image lt (inl was) = (image, was, inl refl)
-since_torn (Write b from) size before image lt (inr torn) =
-    (torn.0, torn.1, inr (torn.2, torn.3, ap (take size) torn.4 ∙ take_after (Write b from) size torn.2 torn.0 lt))
-since_torn Barrier size before image lt (inr none) = absurd none
+since_torn call size before image lt (inr torn) =
+    let base = torn_base call before image torn in (
+      base.0,
+      base.1,
+      inr (torn_more call (λ i. (b : Image) × (b ≡ base.0) × (i ≡ take size b)) (λ i. i ≡ take size base.0) (λ i one. one.2 ∙ ap (take size) one.1) (take size image)
+          (torn_take call size (λ i. i ≡ base.0) image lt base.2)),
+    )
 
 -- its mark is as it was
 mark_torn : (call : WritingCall) (mark : ℕ) (opens : Bool) (before : Image → Type 0) (image : Image) → IsWithin call mark
     → HaveMark mark opens before → before image ⊎ TornBy call before image → is_open_at mark image ≡ opens
 mark_torn call mark opens before image lt have (inl was) = have image was
-mark_torn (Write b from) mark opens before image lt have (inr torn) =
-    ap (is_open_at mark) torn.4 ∙ open_after (Write b from) mark torn.2 torn.0 lt ∙ have torn.0 torn.1
-mark_torn Barrier mark opens before image lt have (inr none) = absurd none
+mark_torn call mark opens before image lt have (inr torn) =
+    let base = torn_mark call mark before image lt torn in base.2 ∙ have base.0 base.1
 
 -- ---- one half
 

@@ -8,6 +8,7 @@ pub mod Marks
 pub mod Methods
 pub mod Named
 pub mod Past
+pub mod Rows
 pub mod Since
 pub mod Telling
 pub mod Told

@@ -1,10 +1,11 @@
 -- What each call of a mirror but an attach leaves to the layers above.
-use Rattle.std.proofs.Common.{◌≡◌, ◌↔◌, ℕ, ◌-◌, ◌<◌, ◌≤◌, ◌⊎◌, min, List, [], ◌∷◌, length, Bool, true, false, Option, None, Some, IfSome, Result, Ok, Err, OnOk, OnErr, refl, sym, ap, subst, ◌∙◌, arith, inl, inr, ⊎_elim, slice_set}
+use Rattle.std.proofs.Common.{◌≡◌, ◌↔◌, ℕ, ◌+◌, ◌-◌, ◌*◌, ◌<◌, ◌≤◌, ◌⊎◌, min, List, [], ◌∷◌, length, take, Bool, true, false, Option, None, Some, IfSome, Result, Ok, Err, OnOk, OnErr, refl, sym, ap, subst, ◌∙◌, arith, inl, inr, ⊎_elim, slice_set}
 use Rattle.std.specs.Prelude.{◌&&◌, ◌==◌, nat_lt, is_some, is_ok}
 use Rattle.std.proofs.lemmas.Bool.{false≢true, cases_lt}
 use Rattle.std.proofs.lemmas.List.{get_or-set_same, length-set}
 use Rattle.bd_io.specs.Cause.{next_count}
 use Rattle.bd_device.specs.Blocks.{Image, IsBlock, HasBlocks, ChangesOnly, with_block}
+use Rattle.bd_device.specs.Changes.{IsBeforeBut, bytes_at}
 use Rattle.bd_device.specs.Device.{left_now}
 use Rattle.bd_device.specs.Moments.{Elapses, Nothing, TornAt, IsOnly}
 use Rattle.bd_device.specs.declared.device.Device.{Ghosts}
@@ -24,7 +25,9 @@ use Rattle.bd_mirror.specs.declared.halves.Attached.{Attached}
 use Rattle.bd_mirror.specs.declared.halves.Attached.TheVariants.{Nothing as Unattached, Alone, Member, Pair, Apart}
 use Rattle.bd_mirror.specs.declared.parts.Parts.{Parts}
 use Rattle.bd_mirror.proofs.Crashes.{is_known}
+use Rattle.bd_mirror.specs.Writing.{contents_with_run}
 use Rattle.bd_mirror.proofs.Past.{none_since}
+use Rattle.bd_mirror.proofs.Rows.{row_none}
 use Rattle.bd_mirror.proofs.Since.{same_blocks}
 use Rattle.bd_mirror.proofs.Telling.{now_named, up_named, form_more, of_kind, two_named, time_for, IsTold, PastOf, from_behind, to_behind, behind_on, at_name, since_by, since_none, left_blocks, pair_sizes, now_of, only_at}
 use Rattle.bd_mirror.proofs.Told.{both_known, untold, told_is, of_known, image_blocks, size_named, named_is, named_shown, named_on}
@@ -204,6 +207,11 @@ sound_on ga gb old new sound stays noted counted marked kept whole = record {
 
 pub blocks_on : {A B : Type 0} (ga : Ghosts A) (gb : Ghosts B) (old new : Parts A B) → HalvesStay ga gb old new → blocks_now ga gb new ≡ blocks_now ga gb old
 blocks_on ga gb old new stays = same_blocks old.attached new.attached (halves_of new.attached) (ga.block_count old.first) (gb.block_count old.second) _ _ stays.attached stays.first_count stays.second_count
+
+-- there are no bytes in a row of no blocks
+no_row : (first n : ℕ) (bytes : List ℕ) (known : Option Image) → n ≡ 0 → IfSome known (λ image. take (n * 4096) bytes ≡ bytes_at image first n)
+no_row first n bytes None none = tt
+no_row first n bytes (Some image) none = ap (λ k. take (k * 4096) bytes) none ∙ sym (ap (bytes_at image first) none)
 
 -- ---- crashes
 
@@ -452,6 +460,35 @@ since_write ga gb sa sb la lb old new b laws went inside =
     (TornAt b (mirror_since ga gb sa sb la lb old old.counts.calls))
     laws went.sound went.sound_now.whole went.stays went.noted went.counted went.told inside
     (λ some c torn shape told. (torn.0, leaves_now ga gb sa sb la lb old old.counts.calls torn.0 laws went.sound some told torn.1, torn.2, torn.3, torn.4))
+
+-- of a write of blocks in a row
+pub since_run : {A B : Type 0} (ga : Ghosts A) (gb : Ghosts B) (sa : A → List ℕ → Option Image) (sb : B → List ℕ → Option Image) (la : A → List ℕ → ℕ → Image → Type 0) (lb : B → List ℕ → ℕ → Image → Type 0) (old new : Parts A B) (row : ℕ → Type 0)
+    → HaveLaws ga gb sa sb la lb → WentOn ga gb old new
+    → (0 < blocks_now ga gb old → (c : Image) → IsLeftOf old.attached (ga.block_count old.first) (gb.block_count old.second) (ga.left_since new.first (ga.call_count old.first)) (gb.left_since new.second (gb.call_count old.second)) c
+    → IsLeftOf old.attached (ga.block_count old.first) (gb.block_count old.second) (left_now ga old.first) (left_now gb old.second) c
+    ⊎ IsBeforeBut row (IsLeftOf old.attached (ga.block_count old.first) (gb.block_count old.second) (left_now ga old.first) (left_now gb old.second)) c)
+    → Elapses old.counts.calls new.counts.calls (mirror_since ga gb sa sb la lb old) (mirror_since ga gb sa sb la lb new) (IsBeforeBut row (mirror_since ga gb sa sb la lb old old.counts.calls))
+since_run ga gb sa sb la lb old new row laws went inside =
+    since_call ga gb sa sb la lb old new
+    (IsBeforeBut row (IsLeftOf old.attached (ga.block_count old.first) (gb.block_count old.second) (left_now ga old.first) (left_now gb old.second)))
+    (IsBeforeBut row (mirror_since ga gb sa sb la lb old old.counts.calls))
+    laws went.sound went.sound_now.whole went.stays went.noted went.counted went.told inside
+    (λ some c torn shape told. (torn.0, leaves_now ga gb sa sb la lb old old.counts.calls torn.0 laws went.sound some told torn.1, torn.2))
+
+-- what reads give after one, where a row of no blocks is written too
+pub run_contents : {A B : Type 0} (ga : Ghosts A) (gb : Ghosts B) (old new : Parts A B) (first n : ℕ) (bytes : ℕ → List ℕ) → WentOn ga gb old new → first + n ≤ blocks_now ga gb old
+    → shown_now ga gb new ≡ contents_with_run first n bytes (shown_now ga gb old) → mirror_contents ga gb new ≡ contents_with_run first n bytes (mirror_contents ga gb old)
+run_contents ga gb old new first n bytes went le shown =
+    contents_on ga gb old new (contents_with_run first n bytes) went.sound went.sound_now (blocks_on ga gb old new went.stays) went.told refl
+    (λ off known. row_none first n bytes known (omega (arith, le, off))) shown
+
+-- what a read of blocks in a row gives, where it is one of no blocks too
+pub run_read : {A B : Type 0} (ga : Ghosts A) (gb : Ghosts B) (m : Parts A B) (first n : ℕ) (bytes : List ℕ) → IsSound ga gb m → first + n ≤ blocks_now ga gb m
+    → IfSome (shown_now ga gb m) (λ image. take (n * 4096) bytes ≡ bytes_at image first n) → IfSome (mirror_contents ga gb m) (λ image. take (n * 4096) bytes ≡ bytes_at image first n)
+run_read ga gb m first n bytes sound le shown = ⊎_elim
+    (λ (some : 0 < blocks_now ga gb m). of_shown ga gb m (λ image. take (n * 4096) bytes ≡ bytes_at image first n) sound some shown)
+    (λ (off : blocks_now ga gb m ≤ 0). no_row first n bytes (mirror_contents ga gb m) (omega (arith, off, le)))
+    (some_or (blocks_now ga gb m))
 
 -- a block that may hold any bytes
 pub changes_only : {A B : Type 0} (ga : Ghosts A) (gb : Ghosts B) (old new : Parts A B) (b : ℕ) → WentOn ga gb old new → b < blocks_now ga gb old → ChangesOnly b None None

@@ -16,8 +16,7 @@ use Rattle.bd_mirror.specs.Halves.{has_marks, with_halves, is_two, blocks_in}
 use Rattle.bd_mirror.specs.Since.{IsLeftOf}
 use Rattle.bd_mirror.specs.Writing.{IsWithin, TornBy, IsLeftBy}
 use Rattle.bd_mirror.specs.declared.writing.WritingCall.{WritingCall}
-use Rattle.bd_mirror.specs.declared.writing.WritingCall.TheVariants.{Write, Barrier}
-use Rattle.bd_mirror.proofs.Marks.{take_after}
+use Rattle.bd_mirror.proofs.Leaves.{torn_take}
 
 -- ---- the count of calls
 
@@ -65,17 +64,10 @@ pub left_inside : (call : WritingCall) (at : Attached) (na nb : ℕ) (la lb la' 
 left_inside call Unattached na nb la lb la' lb' lt one two c left = absurd left
 left_inside call (Apart h) na nb la lb la' lb' lt one two c left = absurd left
 left_inside call Alone na nb la lb la' lb' lt one two c left = one refl c left
-left_inside (Write b from) Member na nb la lb la' lb' lt one two c left = ⊎_elim
+left_inside call Member na nb la lb la' lb' lt one two c left = ⊎_elim
     (λ was. inl (left.0, was, left.2))
-    (λ torn. inr (
-      take (na - 1) torn.0,
-      (torn.0, torn.1, refl),
-      torn.2,
-      torn.3,
-      left.2 ∙ ap (take (na - 1)) torn.4 ∙ take_after (Write b from) (na - 1) torn.2 torn.0 lt,
-    ))
+    (λ torn. inr (subst (TornBy call (λ i. (base : Image) × la base × (i ≡ take (na - 1) base))) (sym left.2) (torn_take call (na - 1) la left.0 lt torn)))
     (one refl left.0 left.1)
-left_inside Barrier Member na nb la lb la' lb' lt one two c left = ⊎_elim (λ was. inl (left.0, was, left.2)) (λ none. absurd none) (one refl left.0 left.1)
 left_inside call (Pair h) na nb la lb la' lb' lt one two c left =
     let Q : Image → Type 0 = IsLeftBy call (IsPicked (min na nb - 1) (na - 1) (nb - 1) la lb) in
     ⊎_elim (λ e. subst Q (sym e) (two refl left.0 left.1 left.2 left.3).0) (λ e. subst Q (sym e) (two refl left.0 left.1 left.2 left.3).1) left.4

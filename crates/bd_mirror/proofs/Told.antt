@@ -50,12 +50,12 @@ of_known P at (Some x) None f = tt
 of_known P at (Some x) (Some y) f = f x y refl refl
 
 -- a half that was written is known as it was
-some_after : (call : WritingCall) (bytes : List ℕ) (old : Option Image) → is_some (contents_after call bytes old) ≡ is_some old
+some_after : (call : WritingCall) (bytes : ℕ → List ℕ) (old : Option Image) → is_some (contents_after call bytes old) ≡ is_some old
 some_after call bytes None = refl
 some_after call bytes (Some image) = refl
 
-pub known_after : {T E : Type 0} (r : Result T E) (call : WritingCall) (bytes : List ℕ) (old new : Option Image) → OnOk r (new ≡ contents_after call bytes old)
-    → OnErr r ((x : List ℕ) × (new ≡ contents_after call x old)) → is_some new ≡ is_some old
+pub known_after : {T E : Type 0} (r : Result T E) (call : WritingCall) (bytes : ℕ → List ℕ) (old new : Option Image) → OnOk r (new ≡ contents_after call bytes old)
+    → OnErr r ((x : ℕ → List ℕ) × (new ≡ contents_after call x old)) → is_some new ≡ is_some old
 known_after (Ok x) call bytes old new done others = ap is_some done ∙ some_after call bytes old
 known_after (Err e) call bytes old new done others = ap is_some others.1 ∙ some_after call others.0 old
 

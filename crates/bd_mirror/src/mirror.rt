@@ -20,7 +20,8 @@ use std::marker::Model;
 /// is out of use until the next attach. Where both fail, or that mark does, the mirror is broken:
 /// this and each later call but an attach fails. A half alone stays in use when it fails.
 ///
-/// The counts are the mirror's own. No call takes memory.
+/// The counts are the mirror's own; blocks that are read or written in a row are one call, of the
+/// mirror and of each half. No call takes memory.
 #[derive(Drop)]
 pub struct Mirror<A: Attach, B: Attach> {
     parts: Parts<A, B>,
@@ -55,6 +56,11 @@ impl<A: Attach, B: Attach> Mirror<A, B> {
 }
 
 impl<A: Attach, B: Attach> Device for Mirror<A, B> {
+    ghost use Rattle.std.specs.Prelude.{ℕ, ◌+◌, ◌*◌, ◌^◌, ◌<◌, ◌≤◌, List, IfSome, IsTrue, OnOk, OnErr, is_ok, length, take};
+    ghost use Rattle.bd_limits.specs.Limits.{block_size};
+    ghost use Rattle.bd_device.specs.Calls.{faults_after};
+    ghost use Rattle.bd_device.specs.Changes.{StaysBut, IsBeforeBut, IsInRange, bytes_at};
+    ghost use Rattle.bd_device.specs.Moments.{Elapses, Nothing as Unwritten};
     ghost use Rattle.bd_mirror.specs.Calls.{blocks_now, faults_of, write_faults_of, calls_of, last_of};
     ghost use Rattle.bd_mirror.specs.Did.{MirrorDid};
     ghost use Rattle.bd_mirror.specs.Laws.{earlier_law};
@@ -94,6 +100,69 @@ impl<A: Attach, B: Attach> Device for Mirror<A, B> {
 
     fn write(&mut self, b: u64, from: &[u8; BLOCK_SIZE]) -> Result<(), Failed> {
         let result = self.parts.write(b, from);
+        self.parts.are_whole();
+        result
+    }
+
+    /// Reads so many blocks, from block `first` on, into the front of `into`, as one call, which
+    /// fails only where a read does.
+    fn read_run(&mut self, first: u64, into: &mut [u8], count: usize) -> Result<(), Failed>
+        requires room { first + count ≤ blocks_now A.Device B.Device self.old }
+        requires fits { first + count < 2 ^ 64 }
+        requires length { count * block_size ≤ length into.old }
+        ensures bytes { OnOk result (IfSome (mirror_contents A.Device B.Device self.old)
+            (λ image. take (count * block_size) into.new ≡ bytes_at image first count)) }
+        ensures kept { mirror_contents A.Device B.Device self.new
+            ≡ mirror_contents A.Device B.Device self.old }
+        ensures count { blocks_now A.Device B.Device self.new
+            ≡ blocks_now A.Device B.Device self.old }
+        ensures faults { faults_of self.new ≡ faults_after (faults_of self.old) result }
+        ensures later { faults_of self.old ≤ faults_of self.new }
+        ensures last { OnErr result (IsTrue (last_of self.new)) }
+        ensures write_faults { write_faults_of self.new ≡ write_faults_of self.old }
+        ensures time { Elapses (calls_of self.old) (calls_of self.new)
+            (mirror_since A.Device B.Device A.shows B.shows A.left_behind B.left_behind self.old)
+            (mirror_since A.Device B.Device A.shows B.shows A.left_behind B.left_behind self.new)
+            Unwritten }
+        ensures same_name { (name : List ℕ) → GoesBy A.Device B.Device self.old name
+            → GoesBy A.Device B.Device self.new name }
+        ensures also { MirrorDid A.Device B.Device A.shows B.shows A.left_behind B.left_behind
+            self.old self.new (is_ok result) }
+    {
+        let result = self.parts.read_run(first, into, count);
+        self.parts.are_whole();
+        result
+    }
+
+    /// Writes so many blocks, from block `first` on, of the front of `from`, as one call, which
+    /// fails only where a write does. These blocks then hold any bytes.
+    fn write_run(&mut self, first: u64, from: &[u8], count: usize) -> Result<(), Failed>
+        requires room { first + count ≤ blocks_now A.Device B.Device self.old }
+        requires fits { first + count < 2 ^ 64 }
+        requires length { count * block_size ≤ length from.now }
+        ensures written { OnOk result (IfSome (mirror_contents A.Device B.Device self.new)
+            (λ image. bytes_at image first count ≡ take (count * block_size) from.now)) }
+        ensures others { StaysBut (IsInRange first (first + count))
+            (mirror_contents A.Device B.Device self.old)
+            (mirror_contents A.Device B.Device self.new) }
+        ensures count { blocks_now A.Device B.Device self.new
+            ≡ blocks_now A.Device B.Device self.old }
+        ensures faults { faults_of self.new ≡ faults_after (faults_of self.old) result }
+        ensures later { faults_of self.old ≤ faults_of self.new }
+        ensures last { OnErr result (IsTrue (last_of self.new)) }
+        ensures write_faults { write_faults_of self.new
+            ≡ faults_after (write_faults_of self.old) result }
+        ensures time { Elapses (calls_of self.old) (calls_of self.new)
+            (mirror_since A.Device B.Device A.shows B.shows A.left_behind B.left_behind self.old)
+            (mirror_since A.Device B.Device A.shows B.shows A.left_behind B.left_behind self.new)
+            (IsBeforeBut (IsInRange first (first + count)) (mirror_since A.Device B.Device
+            A.shows B.shows A.left_behind B.left_behind self.old (calls_of self.old))) }
+        ensures same_name { (name : List ℕ) → GoesBy A.Device B.Device self.old name
+            → GoesBy A.Device B.Device self.new name }
+        ensures also { MirrorDid A.Device B.Device A.shows B.shows A.left_behind B.left_behind
+            self.old self.new (is_ok result) }
+    {
+        let result = self.parts.write_run(first, from, count);
         self.parts.are_whole();
         result
     }

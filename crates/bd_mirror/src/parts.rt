@@ -1,4 +1,5 @@
-ghost use Rattle.std.specs.Prelude.{is_some, ◌≡◌, ◌≢◌, ℕ, List, [], ◌∷◌, ◌<◌, ◌≤◌, ◌+◌, ◌-◌, ◌^◌, if◌then◌else◌, ◌⊎◌, true, false, IsTrue, length, take, None, Some, IfSome, IfNone, IfOk, OnOk, OnErr, is_ok, is_err, slice_get};
+ghost use Rattle.std.specs.Prelude.{is_some, ◌≡◌, ◌≢◌, ℕ, List, [], ◌∷◌, ◌<◌, ◌≤◌, ◌+◌, ◌-◌, ◌*◌, ◌^◌, if◌then◌else◌, ◌⊎◌, true, false, IsTrue, length, take, None, Some, IfSome, IfNone, IfOk, OnOk, OnErr, is_ok, is_err, slice_get};
+ghost use Rattle.bd_limits.specs.Limits.{block_size};
 ghost use Rattle.bd_io.specs.Cause.{HasCause, IsCounted, Rose};
 ghost use Rattle.bd_device.specs.Calls.{faults_after, no_calls};
 ghost use Rattle.bd_device.specs.Blocks.{Image, with_block, ChangesOnly};
@@ -8,21 +9,21 @@ ghost use Rattle.std.specs.Option.{option_map};
 ghost use Rattle.bd_mirror.specs.Contents.{is_open_at, shown_together};
 ghost use Rattle.bd_mirror.specs.Crashes.{IsPickOf, Stretch, GoesOn, LosesNothing};
 ghost use Rattle.bd_mirror.specs.Names.{HasPlus, IsNamed, first_name, second_name, without_last, shown_for};
-ghost use Rattle.bd_device.specs.Changes.{StaysBut};
+ghost use Rattle.bd_device.specs.Changes.{StaysBut, IsBeforeBut, IsInRange, bytes_at};
 ghost use Rattle.bd_device.specs.Device.{left_now, Goes, FailsLast, Stays};
 ghost use Rattle.bd_device.specs.Moments.{Nothing as Unwritten, TornAt, Elapses, IsOnly};
 ghost use Rattle.bd_mirror.specs.Halves.{has_marks, IsInUse, halves_of, with_halves, uses_first, uses_second, blocks_in, EachDid, LeftOnly, AttachedTo, is_two, is_too_many};
 ghost use Rattle.bd_mirror.specs.Past.{GoesAsBefore, GoesByName, MemberGoes};
 ghost use Rattle.bd_mirror.specs.Since.{IsLeftOf};
 ghost use Rattle.bd_mirror.specs.Sound.{AreWhole, KeepsMoments, are_told};
-ghost use Rattle.bd_mirror.specs.Writing.{IsWithin, IsBarrier, bytes_of, contents_after, TornBy, IsLeftBy};
+ghost use Rattle.bd_mirror.specs.Writing.{HasBytes, IsWithin, IsBarrier, bytes_of, contents_after, contents_with_run, run_bytes, TornBy, IsLeftBy};
 ghost use Rattle.bd_mirror.specs.Calls.{blocks_now, shown_now, shown_of, IsMirror, KeepsMarks, mirror_left, LeavesImages, IsMade, LeavesWhatItShows, attached_as, AreSettled, in_use, attached_to, first_of, second_of, counts_of, moments_of, calls_of, faults_of, write_faults_of, last_of, IsFull, FirstFailed, SecondFailed, HalvesNamed, HalvesStay};
 
 use crate::copying::{go_on_alone, is_alone, is_open, mirror_onto, open_member};
 use crate::halves::{Attached, Halves};
 use crate::history::{Call, History};
 use crate::writing::WritingCall;
-use bd_device::{Attach, BLOCK_SIZE, Counts, Device};
+use bd_device::{Attach, BLOCK_SIZE, Counts, Device, read_blocks};
 use bd_io::Failed;
 
 /// What a mirror is made of: its halves, which of them are attached and in use, its own counts, and
@@ -87,14 +88,48 @@ impl<A: Device, B: Device> Parts<A, B> {
         }
     }
 
+    // Reads blocks in a row of the first half in use that doesn't fail.
+    fn read_run_halves(&mut self, first: u64, into: &mut [u8], count: usize) -> Result<(), Failed>
+        requires room { first + count ≤ blocks_in self.old.attached
+            (A.block_count self.old.first) (B.block_count self.old.second) }
+        requires fits { first + count < 2 ^ 64 }
+        requires length { count * block_size ≤ length into.old }
+        ensures bytes { OnOk result (IsMirror A.Device B.Device self.old
+            → IfSome (shown_now A.Device B.Device self.old)
+            (λ image. take (count * block_size) into.new ≡ bytes_at image first count)) }
+        ensures first_kept { A.contents self.new.first ≡ A.contents self.old.first }
+        ensures second_kept { B.contents self.new.second ≡ B.contents self.old.second }
+        ensures why { OnErr result (EachDid (halves_of self.old.attached)
+            (FirstFailed A.Device self.old self.new) (SecondFailed B.Device self.old self.new)) }
+        ensures stays { HalvesStay A.Device B.Device self.old self.new }
+        ensures attached { self.new.attached ≡ self.old.attached }
+        ensures first_time { Goes A.Device self.old.first self.new.first Unwritten }
+        ensures second_time { Goes B.Device self.old.second self.new.second Unwritten }
+        ensures marks { KeepsMarks A.Device B.Device self.old
+            → KeepsMarks A.Device B.Device self.new }
+        ensures counts { self.new.counts ≡ self.old.counts }
+        ensures moments { self.new.history.moments ≡ self.old.history.moments }
+    {
+        match self.attached.halves() {
+            Halves::Neither => Err(Failed),
+            Halves::First => read_blocks(&mut self.first, first, into, count),
+            Halves::Second => read_blocks(&mut self.second, first, into, count),
+            Halves::Both => match read_blocks(&mut self.first, first, into, count) {
+                Ok(()) => Ok(()),
+                Err(_) => read_blocks(&mut self.second, first, into, count),
+            },
+        }
+    }
+
     // Makes a call of each half in use. Where one of both fails, goes on with the other one.
     fn call_halves(&mut self, call: WritingCall) -> Result<(), Failed>
-        requires { IsWithin call (blocks_in self.old.attached
+        requires within { IsWithin call (blocks_in self.old.attached
             (A.block_count self.old.first) (B.block_count self.old.second)) }
+        requires bytes { HasBytes call }
         ensures done { OnOk result (IsMirror A.Device B.Device self.old
             → shown_now A.Device B.Device self.new ≡ contents_after call.entry
             (bytes_of call.entry) (shown_now A.Device B.Device self.old)) }
-        ensures others { OnErr result (IsMirror A.Device B.Device self.old → (bytes : List ℕ)
+        ensures others { OnErr result (IsMirror A.Device B.Device self.old → (bytes : ℕ → List ℕ)
             × (shown_now A.Device B.Device self.new
             ≡ contents_after call.entry bytes (shown_now A.Device B.Device self.old))) }
         ensures mirror { IsMirror A.Device B.Device self.old
@@ -207,6 +242,40 @@ impl<A: Device, B: Device> Parts<A, B> {
         self.counts.settle(result.is_ok())
     }
 
+    /// Reads blocks in a row, as one call, of the first half in use that doesn't fail.
+    pub fn read_run(&mut self, first: u64, into: &mut [u8], count: usize) -> Result<(), Failed>
+        requires room { first + count ≤ blocks_now A.Device B.Device self.old }
+        requires fits { first + count < 2 ^ 64 }
+        requires length { count * block_size ≤ length into.old }
+
+        // It does what a read of each of them does.
+        ensures bytes { OnOk result (IsMirror A.Device B.Device self.old
+            → IfSome (shown_now A.Device B.Device self.old)
+            (λ image. take (count * block_size) into.new ≡ bytes_at image first count)) }
+        ensures first_kept { A.contents (first_of self.new) ≡ A.contents (first_of self.old) }
+        ensures second_kept { B.contents (second_of self.new) ≡ B.contents (second_of self.old) }
+        ensures attached { attached_to self.new ≡ attached_to self.old }
+        ensures stays { HalvesStay A.Device B.Device self.old self.new }
+        ensures first_time { Goes A.Device (first_of self.old) (first_of self.new) Unwritten }
+        ensures second_time { Goes B.Device (second_of self.old) (second_of self.new) Unwritten }
+        ensures marks { KeepsMarks A.Device B.Device self.old
+            → KeepsMarks A.Device B.Device self.new }
+        ensures noted { moments_of self.new
+            ≡ (None, first_of self.old, second_of self.old) ∷ moments_of self.old }
+        ensures moments { KeepsMoments self.old → KeepsMoments self.new }
+        ensures why { OnErr result (IsFull self.old ⊎ EachDid (in_use self.old)
+            (FirstFailed A.Device self.old self.new) (SecondFailed B.Device self.old self.new)) }
+        ensures faults { faults_of self.new ≡ faults_after (faults_of self.old) result }
+        ensures later { faults_of self.old ≤ faults_of self.new }
+        ensures last { last_of self.new ≡ is_err result }
+        ensures write_faults { write_faults_of self.new ≡ write_faults_of self.old }
+        ensures calls { IsCounted (calls_of self.old) (calls_of self.new) result }
+    {
+        self.history = self.history.and(&Call::Other, &self.first, &self.second);
+        let result = self.read_run_halves(first, into, count);
+        self.counts.settle(result.is_ok())
+    }
+
     /// Writes a block of each half in use.
     pub fn write(&mut self, b: u64, from: &[u8; BLOCK_SIZE]) -> Result<(), Failed>
         requires { b < blocks_now A.Device B.Device self.old }
@@ -261,6 +330,62 @@ impl<A: Device, B: Device> Parts<A, B> {
     {
         self.history = self.history.and(&Call::Other, &self.first, &self.second);
         let result = self.call_halves(WritingCall::Write(b, from));
+        self.counts.settle_writing(result.is_ok())
+    }
+
+    /// Writes blocks in a row of each half in use, as one call.
+    pub fn write_run(&mut self, first: u64, from: &[u8], count: usize) -> Result<(), Failed>
+        requires room { first + count ≤ blocks_now A.Device B.Device self.old }
+        requires fits { first + count < 2 ^ 64 }
+        requires length { count * block_size ≤ length from.now }
+
+        // A mirror shows these blocks, where this succeeds, and stays a mirror. Else they hold any
+        // bytes.
+        ensures written { OnOk result (IsMirror A.Device B.Device self.old
+            → shown_now A.Device B.Device self.new ≡ contents_with_run first count
+            (run_bytes first from.now) (shown_now A.Device B.Device self.old)) }
+        ensures others { IsMirror A.Device B.Device self.old → (bytes : ℕ → List ℕ)
+            × (shown_now A.Device B.Device self.new
+            ≡ contents_with_run first count bytes (shown_now A.Device B.Device self.old)) }
+        ensures mirror { IsMirror A.Device B.Device self.old
+            → IsMirror A.Device B.Device self.new }
+        ensures told { are_told A.Device B.Device self.new
+            ≡ are_told A.Device B.Device self.old }
+        ensures stays { HalvesStay A.Device B.Device self.old self.new }
+
+        // Inside it and after it each pair of images that a crash may leave of halves with marks
+        // gives, by the pick in either order, an image that one could give before, or such an image
+        // with these blocks torn. A half alone is written alone.
+        ensures inside { has_marks (attached_to self.old) ≡ true
+            → KeepsMarks A.Device B.Device self.old
+            → LeavesImages A.Device B.Device self.old self.new
+            (λ image. mirror_left A.Device B.Device self.old image
+            ⊎ IsBeforeBut (IsInRange first (first + count))
+            (mirror_left A.Device B.Device self.old) image) }
+        ensures marks { IsMirror A.Device B.Device self.old
+            → KeepsMarks A.Device B.Device self.old → KeepsMarks A.Device B.Device self.new }
+        ensures noted { moments_of self.new
+            ≡ (None, first_of self.old, second_of self.old) ∷ moments_of self.old }
+        ensures moments { KeepsMoments self.old → KeepsMoments self.new }
+        ensures alone { is_two (attached_to self.old) ≡ false
+            → Goes A.Device (first_of self.old) (first_of self.new)
+            (IsBeforeBut (IsInRange first (first + count))
+            (left_now A.Device (first_of self.old))) }
+
+        // It fails as a write does.
+        ensures why { OnErr result (IsFull self.old ⊎ EachDid (in_use self.old)
+            (FirstFailed A.Device self.old self.new) (SecondFailed B.Device self.old self.new)) }
+        ensures in_use { LeftOnly (in_use self.old) (in_use self.new)
+            (FirstFailed A.Device self.old self.new) (SecondFailed B.Device self.old self.new) }
+        ensures faults { faults_of self.new ≡ faults_after (faults_of self.old) result }
+        ensures later { faults_of self.old ≤ faults_of self.new }
+        ensures last { last_of self.new ≡ is_err result }
+        ensures write_faults { write_faults_of self.new
+            ≡ faults_after (write_faults_of self.old) result }
+        ensures calls { IsCounted (calls_of self.old) (calls_of self.new) result }
+    {
+        self.history = self.history.and(&Call::Other, &self.first, &self.second);
+        let result = self.call_halves(WritingCall::Run(first, from, count));
         self.counts.settle_writing(result.is_ok())
     }
 

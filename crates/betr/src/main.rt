@@ -1,9 +1,10 @@
-//! The program: `run` over a file, standard input and standard output.
+//! The program: `run` over one file or a mirror of two, standard input and standard output.
 #![tactic(auto)]
 
 use bd_calls::run;
 use bd_filedev::FileDevice;
 use bd_io::{StdSink, StdSource};
+use bd_mirror::Mirror;
 use std::env;
 use std::io::{self, ErrorKind};
 use std::process::ExitCode;
@@ -15,10 +16,12 @@ fn main(rt: HostRuntime) -> ExitCode {
     ExitCode::from(status(&rt).unwrap_or(NO_MEMORY))
 }
 
-/// Runs the program over a file, standard input and standard output, and gives its status.
+/// Runs the program over files, standard input and standard output, and gives its status. Its
+/// device is a mirror of two files, of which an IMAGE `X+Y` names both, `X+` the first one as a
+/// member, and any other name the first one alone.
 fn status(rt: &HostRuntime) -> io::Result<u8> {
     let words = called_with(rt)?;
-    let mut dev = FileDevice::new(rt);
+    let mut dev = Mirror::new(FileDevice::new(rt), FileDevice::new(rt));
     let mut src = StdSource::new(rt.reader());
     let mut sink = StdSink::new(rt.alloc(), io::writer(rt))?;
     Ok(run(rt.alloc(), &words, &mut dev, &mut src, &mut sink).status)

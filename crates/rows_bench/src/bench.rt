@@ -1,11 +1,14 @@
 //! The rows of a file, which are run while they are read.
 
-use crate::blocks::{block_in, blocks_of, copied, flip_byte, front, set_bytes, zeros};
+use crate::blocks::{
+    block_in, blocks_of, copied, first_unlike, flip_byte, front, set_bytes, zeros,
+};
 use crate::braces::expand;
 use crate::plan::{Plan, number_before};
 use crate::told::{Program, Told};
 use bd_device::{Device, MemDevice};
 use std::alloc::{AllocError, Global};
+use std::mem;
 
 /// How many slots an image has of which nothing is said.
 const SLOTS: u64 = 24;
@@ -41,7 +44,7 @@ impl Counts {
     }
 }
 
-/// The row that is read, with its device, the call that is read, and what was found.
+/// The row that is read, with its devices, the call that is read, and what was found.
 pub struct Bench<'t> {
     alloc: Global,
     file: &'t str,
@@ -49,6 +52,7 @@ pub struct Bench<'t> {
     shows: bool,
     line: u64,
     blocks: u64,
+    others: u64,
     slots: Option<u64>,
     is_made: bool,
     is_wrong: bool,
@@ -57,7 +61,9 @@ pub struct Bench<'t> {
     wanted: String,
     places: Vec<u64>,
     dev: MemDevice,
+    other: MemDevice,
     kept: MemDevice,
+    other_kept: MemDevice,
     counts: Counts,
     report: String,
 }
@@ -72,6 +78,7 @@ impl Drop for Bench<'_> {
             shows: _,
             line: _,
             blocks: _,
+            others: _,
             slots: _,
             is_made: _,
             is_wrong: _,
@@ -80,7 +87,9 @@ impl Drop for Bench<'_> {
             wanted: _,
             places: _,
             dev: _,
+            other: _,
             kept: _,
+            other_kept: _,
             counts: _,
             report: _,
         } = self;
@@ -97,6 +106,7 @@ impl<'t> Bench<'t> {
             shows,
             line: 0,
             blocks: 0,
+            others: 0,
             slots: None,
             is_made: true,
             is_wrong: false,
@@ -105,7 +115,9 @@ impl<'t> Bench<'t> {
             wanted: String::new(alloc),
             places: Vec::new(alloc),
             dev: zeros(alloc, 0)?,
+            other: zeros(alloc, 0)?,
             kept: zeros(alloc, 0)?,
+            other_kept: zeros(alloc, 0)?,
             counts: Counts::new(),
             report: String::new(alloc),
         })
@@ -161,8 +173,21 @@ impl<'t> Bench<'t> {
     /// Says which device the row has.
     fn begin_device(&mut self, blocks: u64, slots: Option<u64>) {
         self.blocks = blocks;
+        self.others = 0;
         self.slots = slots;
         self.is_made = false;
+    }
+
+    /// Says that the row has two devices, each with room for an image of so many slots and a mark.
+    fn begin_members(&mut self, slots: u64) {
+        let blocks = blocks_of(slots).saturating_add(1);
+        self.begin_device(blocks, None);
+        self.others = blocks;
+    }
+
+    /// Whether the row has two devices.
+    fn is_mirror(&self) -> bool {
+        self.others > 0
     }
 
     /// Ends a row.
@@ -178,7 +203,7 @@ impl<'t> Bench<'t> {
     /// Begins a run where there is no call.
     fn want_plan(&mut self) {
         if self.plan.is_none() {
-            self.plan = Some(Plan::new("betr run img", "", self.line));
+            self.plan = Some(Plan::run(self.line, self.is_mirror()));
         }
     }
 
@@ -199,7 +224,7 @@ impl<'t> Bench<'t> {
     /// Does what a directive says.
     fn direct<P: Program>(&mut self, text: &'t str) -> Result<(), AllocError> {
         let (name, rest) = text.split_once(" ").unwrap_or((text, ""));
-        if let Some(plan) = Plan::begun(name, rest, self.line) {
+        if let Some(plan) = Plan::begun(name, rest, self.line, self.is_mirror()) {
             self.end_call::<P>()?;
             self.plan = Some(plan);
             return Ok(());
@@ -222,7 +247,7 @@ impl<'t> Bench<'t> {
     fn say(&mut self, name: &str, rest: &'t str) -> bool {
         let mut plan = match self.plan {
             Some(plan) => plan,
-            None => Plan::new("betr run img", "", self.line),
+            None => Plan::run(self.line, self.is_mirror()),
         };
         let is_one = plan.read(name, rest);
         if is_one {
@@ -252,6 +277,7 @@ impl<'t> Bench<'t> {
             "slots" => self.begin_device(blocks_of(number), Some(number)),
             "blank" => self.begin_device(blocks_of(number), None),
             "blocks" => self.begin_device(number, None),
+            "members" => self.begin_members(number),
             _ => return false,
         }
         true
@@ -264,6 +290,7 @@ impl<'t> Bench<'t> {
         }
         self.is_made = true;
         self.dev = zeros(self.alloc, self.blocks)?;
+        self.other = zeros(self.alloc, self.others)?;
         match self.slots {
             Some(slots) => self.make_image::<P>(slots),
             None => Ok(()),
@@ -276,18 +303,34 @@ impl<'t> Bench<'t> {
         P::format(self.alloc, &mut self.dev, slots.as_str())
     }
 
-    /// Changes the device. Whether the directive is one that does.
+    /// Changes a device. Whether the directive is one that does.
     fn change<P: Program>(&mut self, name: &str, rest: &str) -> Result<bool, AllocError> {
         self.make::<P>()?;
         match name {
-            "keep" => self.kept = copied(self.alloc, &mut self.dev)?,
-            "back" => self.dev = copied(self.alloc, &mut self.kept)?,
+            "keep" => self.keep()?,
+            "back" => self.bring_back()?,
+            "swap" => mem::swap(&mut self.dev, &mut self.other),
+            "wipe" => self.dev = zeros(self.alloc, self.blocks)?,
             "image" => self.show_image()?,
             "flip" => return Ok(self.flip(rest)),
             "set" => return self.set(rest),
             _ => return Ok(false),
         }
         Ok(true)
+    }
+
+    /// Keeps what the devices have.
+    fn keep(&mut self) -> Result<(), AllocError> {
+        self.kept = copied(self.alloc, &mut self.dev)?;
+        self.other_kept = copied(self.alloc, &mut self.other)?;
+        Ok(())
+    }
+
+    /// Gives the devices what was kept of them.
+    fn bring_back(&mut self) -> Result<(), AllocError> {
+        self.dev = copied(self.alloc, &mut self.kept)?;
+        self.other = copied(self.alloc, &mut self.other_kept)?;
+        Ok(())
     }
 
     /// Gives a block another byte. Whether there is one.
@@ -331,8 +374,19 @@ impl<'t> Bench<'t> {
                 Some((block, text)) => self.compare_bytes(block, 0, text, true),
                 None => Ok(false),
             },
+            "alike" => self.compare_devices(),
             _ => Ok(false),
         }
+    }
+
+    /// Compares the blocks of both devices but for the last ones.
+    fn compare_devices(&mut self) -> Result<bool, AllocError> {
+        self.counts.lines = self.counts.lines.saturating_add(1);
+        if let Some(block) = first_unlike(&mut self.dev, &mut self.other) {
+            let found = format!(in self.alloc; "block {block}")?;
+            self.differ(self.line, found.as_str(), "the same in both")?;
+        }
+        Ok(true)
     }
 
     /// Compares bytes of a block from a place on, also whether all after them are zeros. Whether
@@ -397,9 +451,13 @@ impl<'t> Bench<'t> {
         };
         self.plan = None;
         self.make::<P>()?;
-        let told = P::call(self.alloc, &mut self.dev, &plan, self.script.as_bytes())?;
+        let script = self.script.as_bytes();
+        let told = P::call(self.alloc, &mut self.dev, &mut self.other, &plan, script)?;
         if let Some(torn) = plan.torn {
             self.dev.crash(torn);
+        }
+        if let Some(torn) = plan.other_torn {
+            self.other.crash(torn);
         }
         self.judge(&plan, &told)
     }

@@ -76,6 +76,20 @@ pub fn copied(alloc: Global, from: &mut MemDevice) -> Result<MemDevice, AllocErr
     Ok(to)
 }
 
+/// The first block of two devices, but for the last one of each, that differs between them, or that
+/// one alone has.
+pub fn first_unlike(one: &mut MemDevice, other: &mut MemDevice) -> Option<u64> {
+    let _ = (one.attach("img", None), other.attach("img", None));
+    for block in 0..one.blocks().max(other.blocks()).saturating_sub(1) {
+        let (first, second) = (block_in(one, block), block_in(other, block));
+        match (first, second) {
+            (Some(first), Some(second)) if first == second => {}
+            _ => return Some(block),
+        }
+    }
+    None
+}
+
 /// The front of a block without the zeros at its end.
 pub fn front(bytes: &[u8]) -> &[u8] {
     let mut end = 0usize;

@@ -31,12 +31,16 @@ pub struct Plan<'t> {
     pub flush: u64,
     /// What a loss of power after it leaves of a block.
     pub torn: Option<Torn>,
+    /// And of a block of the other device.
+    pub other_torn: Option<Torn>,
     /// Whether it is shown, and not compared.
     pub is_shown: bool,
     piece: u64,
     fuse: u64,
     cut: u64,
     fail: &'t str,
+    other_fuse: u64,
+    other_fail: &'t str,
 }
 
 impl<'t> Plan<'t> {
@@ -54,21 +58,34 @@ impl<'t> Plan<'t> {
             put: 0,
             flush: 0,
             torn: None,
+            other_torn: None,
             is_shown: false,
             piece: NONE,
             fuse: NONE,
             cut: NONE,
             fail: "",
+            other_fuse: NONE,
+            other_fail: "",
+        }
+    }
+
+    /// A run of which nothing else is said, on an image or on a mirror.
+    pub fn run(line: u64, is_mirror: bool) -> Plan<'t> {
+        match is_mirror {
+            false => Plan::new("betr run img", "", line),
+            true => Plan::new("betr run img+other", "", line),
         }
     }
 
     /// The call that a directive begins.
-    pub fn begun(name: &str, rest: &'t str, line: u64) -> Option<Plan<'t>> {
-        match name {
-            "run" | "again" => Some(Plan::new("betr run img", "", line)),
-            "format" => Some(Plan::new("betr format img", rest, line)),
-            "fill" => Some(Plan::new("betr fill img", rest, line)),
-            "call" => Some(Plan::new("", rest, line)),
+    pub fn begun(name: &str, rest: &'t str, line: u64, is_mirror: bool) -> Option<Plan<'t>> {
+        match (name, is_mirror) {
+            ("run" | "again", _) => Some(Plan::run(line, is_mirror)),
+            ("format", false) => Some(Plan::new("betr format img", rest, line)),
+            ("format", true) => Some(Plan::new("betr format img+other", rest, line)),
+            ("fill", false) => Some(Plan::new("betr fill img", rest, line)),
+            ("fill", true) => Some(Plan::new("betr fill img+other", rest, line)),
+            ("call", _) => Some(Plan::new("", rest, line)),
             _ => None,
         }
     }
@@ -82,6 +99,7 @@ impl<'t> Plan<'t> {
             "show" => self.is_shown = true,
             "crash" => return self.read_torn(rest),
             "fuse" => return self.read_fuse(rest),
+            "other" => return self.read_other(rest),
             _ => return self.read_number(name, rest),
         }
         true
@@ -120,6 +138,35 @@ impl<'t> Plan<'t> {
         self.read_torn(torn)
     }
 
+    /// Takes what is said of the other device.
+    fn read_other(&mut self, rest: &'t str) -> bool {
+        let Some((name, rest)) = rest.split_once(" ") else {
+            return false;
+        };
+        match name {
+            "fail" => self.other_fail = rest,
+            "crash" => return self.read_other_torn(rest),
+            "fuse" => return self.read_other_fuse(rest),
+            _ => return false,
+        }
+        true
+    }
+
+    /// Takes how a loss of power tears blocks of the other device.
+    fn read_other_torn(&mut self, rest: &str) -> bool {
+        self.other_torn = torn_in(rest);
+        self.other_torn.is_some()
+    }
+
+    /// Takes the call of the other device at which it stops.
+    fn read_other_fuse(&mut self, rest: &str) -> bool {
+        let Some((number, torn)) = number_before(rest) else {
+            return false;
+        };
+        self.other_fuse = number;
+        self.read_other_torn(torn)
+    }
+
     /// The words of the call.
     pub fn words(&self, alloc: Global) -> Result<Vec<String>, AllocError> {
         let mut words = Vec::new(alloc);
@@ -130,18 +177,22 @@ impl<'t> Plan<'t> {
 
     /// The numbers of the device's calls that fail, after so many earlier ones.
     pub fn failing(&self, alloc: Global, calls: u64) -> Result<Vec<u64>, AllocError> {
-        let mut numbers = Vec::new(alloc);
-        for word in self.fail.split(" ") {
-            if let Ok(number) = word.parse::<u64>() {
-                numbers.push(calls.saturating_add(number))?;
-            }
-        }
-        Ok(numbers)
+        numbers_after(alloc, self.fail, calls)
+    }
+
+    /// Those of the other device's calls.
+    pub fn other_failing(&self, alloc: Global, calls: u64) -> Result<Vec<u64>, AllocError> {
+        numbers_after(alloc, self.other_fail, calls)
     }
 
     /// How many calls of the device pass.
     pub fn passes(&self) -> u64 {
         self.fuse.saturating_sub(1)
+    }
+
+    /// How many calls of the other device pass.
+    pub fn other_passes(&self) -> u64 {
+        self.other_fuse.saturating_sub(1)
     }
 
     /// At most how many bytes the source gives a take.
@@ -154,6 +205,17 @@ impl<'t> Plan<'t> {
         let count = self.cut.min(script.len() as u64) as usize;
         &script[..count]
     }
+}
+
+/// The numbers in a text, each with so many more.
+fn numbers_after(alloc: Global, text: &str, more: u64) -> Result<Vec<u64>, AllocError> {
+    let mut numbers = Vec::new(alloc);
+    for word in text.split(" ") {
+        if let Ok(number) = word.parse::<u64>() {
+            numbers.push(more.saturating_add(number))?;
+        }
+    }
+    Ok(numbers)
 }
 
 /// How a loss of power tears blocks.

@@ -8,7 +8,7 @@ use std::alloc::{AllocError, Global};
 pub struct Told {
     /// Its status.
     pub status: u64,
-    /// How many calls of the device it made.
+    /// How many calls of the row's first device it made.
     pub calls: u64,
     /// How many of them failed.
     pub faults: u64,
@@ -39,10 +39,11 @@ pub trait Program {
     /// Makes an image of so many slots on a device.
     fn format(alloc: Global, dev: &mut MemDevice, slots: &str) -> Result<(), AllocError>;
 
-    /// Makes a call over a device, with this script.
+    /// Makes a call over a mirror of both devices, with this script.
     fn call(
         alloc: Global,
         dev: &mut MemDevice,
+        other: &mut MemDevice,
         plan: &Plan<'_>,
         script: &[u8],
     ) -> Result<Told, AllocError>;

@@ -3,6 +3,7 @@
 use bd_calls::{row, run};
 use bd_device::{Device, FaultyDevice, FuseDevice, MemDevice};
 use bd_io::MemSink;
+use bd_mirror::Mirror;
 use bd_shell::Ack;
 use rows_bench::{KeepingSink, Plan, Program, ScriptSource, Told};
 use std::alloc::{AllocError, Global};
@@ -11,7 +12,7 @@ use std::cell::Cell;
 /// How many bytes there is room for where an image is made.
 const ROOM: usize = 1 << 10;
 
-/// The program, over a device in memory.
+/// The program, over a mirror of two devices in memory, as `betr` has one of two files.
 pub struct Betr;
 
 impl Program for Betr {
@@ -25,11 +26,12 @@ impl Program for Betr {
     fn call(
         alloc: Global,
         dev: &mut MemDevice,
+        other: &mut MemDevice,
         plan: &Plan<'_>,
         script: &[u8],
     ) -> Result<Told, AllocError> {
         let words = plan.words(alloc)?;
-        call_words(alloc, dev, plan, &words, script)
+        call_words(alloc, dev, other, plan, &words, script)
     }
 }
 
@@ -37,21 +39,30 @@ impl Program for Betr {
 fn call_words(
     alloc: Global,
     dev: &mut MemDevice,
+    other: &mut MemDevice,
     plan: &Plan<'_>,
     words: &[String],
     script: &[u8],
 ) -> Result<Told, AllocError> {
     let fail = plan.failing(alloc, dev.calls())?;
+    let other_fail = plan.other_failing(alloc, other.calls())?;
     let passed_on = Cell::new(0);
     let mut src = ScriptSource::new(alloc, plan.given(script), plan, &passed_on);
     let mut sink = KeepingSink::new(alloc, plan, &passed_on);
     let (calls, faults) = (dev.calls(), dev.faults());
-    let mut through = FuseDevice::new(FaultyDevice::new(&mut *dev, fail), plan.passes());
-    let outcome = run(alloc, words, &mut through, &mut src, &mut sink);
+    let mut first = FuseDevice::new(FaultyDevice::new(&mut *dev, fail), plan.passes());
+    let second = FuseDevice::new(
+        FaultyDevice::new(&mut *other, other_fail),
+        plan.other_passes(),
+    );
+    let outcome = {
+        let mut through = Mirror::new(&mut first, second);
+        run(alloc, words, &mut through, &mut src, &mut sink)
+    };
     Ok(Told {
         status: u64::from(outcome.status),
-        calls: through.calls().saturating_sub(calls),
-        faults: through.faults().saturating_sub(faults),
+        calls: first.calls().saturating_sub(calls),
+        faults: first.faults().saturating_sub(faults),
         acks: counts_in(alloc, outcome.acks.as_slice())?,
         passed: numbers_in(alloc, src.seen(), passed_on.get())?,
         written: String::from_utf8_lossy(alloc, sink.written())?,

@@ -1,6 +1,6 @@
 //! Devices: calls in turn, and what each of them gives.
 
-use bd_device::{Attach, BLOCK_SIZE, Device, FaultyDevice, FuseDevice, MemDevice, Torn};
+use bd_device::{Attach, BLOCK_SIZE, Device, FaultyDevice, FuseDevice, MemDevice, Torn, put};
 use bd_io::Failed;
 use std::process::Abort;
 use std::test::Fail;
@@ -12,6 +12,11 @@ pub enum Call {
     Write(u64, u8),
     /// Reads a block, and gives its last byte.
     Read(u64),
+    /// Writes the first two blocks as one call, each of one byte.
+    WriteTwo(u8, u8),
+    /// Reads the first two blocks as one call, and gives the last byte of each as the digits of a
+    /// number.
+    ReadTwo,
     Barrier,
     Attach,
     /// Attaches an image of so many blocks, which is made.
@@ -51,6 +56,30 @@ fn read_byte<D: Device>(device: &mut D, b: u64) -> u64 {
     }
 }
 
+/// Writes the first two blocks, each of one of these bytes.
+fn write_two<D: Device>(device: &mut D, first: u8, second: u8) -> Result<(), Failed> {
+    if device.blocks() < 2 {
+        return Err(Failed);
+    }
+    let mut from = [first; 2 * BLOCK_SIZE];
+    put(&mut from, BLOCK_SIZE, &[second; BLOCK_SIZE]);
+    device.write_run(0, &from, 2)
+}
+
+/// The last bytes of the first two blocks, as digits.
+fn read_two<D: Device>(device: &mut D) -> u64 {
+    if device.blocks() < 2 {
+        return FAILS;
+    }
+    let mut into = [0; 2 * BLOCK_SIZE];
+    match device.read_run(0, &mut into, 2) {
+        Ok(()) => u64::from(into[BLOCK_SIZE - 1])
+            .saturating_mul(10)
+            .saturating_add(u64::from(into[2 * BLOCK_SIZE - 1])),
+        Err(Failed) => FAILS,
+    }
+}
+
 /// Whether a call was done.
 fn told(done: Result<(), Failed>) -> u64 {
     match done {
@@ -64,6 +93,8 @@ fn made<D: Attach>(device: &mut D, name: &str, call: Call) -> u64 {
     match call {
         Call::Write(b, byte) => told(write_byte(device, b, byte)),
         Call::Read(b) => read_byte(device, b),
+        Call::WriteTwo(first, second) => told(write_two(device, first, second)),
+        Call::ReadTwo => read_two(device),
         Call::Barrier => told(device.barrier()),
         Call::Attach => told(device.attach(name, None)),
         Call::Make(blocks) => told(device.attach(name, Some(blocks))),

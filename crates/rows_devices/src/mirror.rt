@@ -140,6 +140,41 @@ fn one_fault_of_one_half_is_not_seen(rt: HostRuntime) -> Result<(), Fail> {
     Ok(())
 }
 
+/// Blocks in a row are one call of a mirror.
+const ROWS: Calls = &[
+    (Call::Make(2), DONE),
+    (Call::WriteTwo(5, 6), DONE),
+    (Call::Barrier, DONE),
+    (Call::ReadTwo, 56),
+    (Call::Read(1), 6),
+    (Call::Calls, 5),
+    (Call::Attach, DONE),
+    (Call::ReadTwo, 56),
+];
+
+/// The calls of a half by which the blocks in a row of `ROWS` and the barrier are done.
+const ROW_CALLS: u64 = 3;
+
+#[test]
+fn blocks_in_a_row_go_to_both(rt: HostRuntime) -> Result<(), Fail> {
+    let alloc = rt.alloc();
+    joined(&rt, "both", half(alloc)?, half(alloc)?, ROWS);
+    run(
+        &rt,
+        "alone",
+        &mut Mirror::new(half(alloc)?, half(alloc)?),
+        "x",
+        ROWS,
+    );
+    for call in FIRST_CALLS + 1..FIRST_CALLS + ROW_CALLS + 3 {
+        joined(&rt, "first", faulty(alloc, call)?, half(alloc)?, ROWS);
+    }
+    for call in SECOND_CALLS + 1..SECOND_CALLS + ROW_CALLS + 1 {
+        joined(&rt, "second", half(alloc)?, faulty(alloc, call)?, ROWS);
+    }
+    Ok(())
+}
+
 /// Calls of both halves that fail, and what a mirror gives then. It is broken until it is attached
 /// again.
 const BROKEN: [(u64, u64, Calls); 4] = [

@@ -10,7 +10,7 @@ returns-clause-others g c =
     let halves = c.call_halves-result in
     either_way halves.result halves.ensures.done halves.ensures.others
     (λ done marked. stays_written (λ i. i ≡ c.args.b) c.args.b c.args.from.now _ _ refl (done marked))
-    (λ changed marked. stays_written (λ i. i ≡ c.args.b) c.args.b (changed marked).0 _ _ refl (changed marked).1)
+    (λ changed marked. stays_written (λ i. i ≡ c.args.b) c.args.b ((changed marked).0 c.args.b) _ _ refl (changed marked).1)
 
 pub returns-clause-moments : goal.returns-clause-moments
 returns-clause-moments g c = λ kept.
@@ -22,4 +22,4 @@ pub returns-clause-failed : goal.returns-clause-failed
 returns-clause-failed g c =
     let halves = c.call_halves-result in
     OnErr-always c.settle_writing.result (either_way halves.result halves.ensures.done halves.ensures.others
-    (λ done marked. (c.args.from.now, done marked)) (λ changed marked. changed marked))
+    (λ done marked. (c.args.from.now, done marked)) (λ changed marked. ((changed marked).0 c.args.b, (changed marked).1)))
