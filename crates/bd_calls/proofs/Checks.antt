@@ -35,6 +35,13 @@ use Rattle.bd_calls.specs.Run.{EndsUnfailed, IsDetached, IsFaultless, Seen}
 use Rattle.bd_calls.proofs.Fills.{never_two, never_zero}
 use Rattle.bd_calls.proofs.Runs.{IsUnmade, disk_of, next_few, rose_or_not, rose_next}
 
+-- what is said of a result holds of what it has
+pub if_ok : {T E : Type 0} (P : T → Type 0) (r : Result T E) (x : T) → r ≡ Ok x → IfOk r P → P x
+if_ok P r x is h = subst (λ (o : Result _ _). IfOk o P) is h
+
+pub if_err : {T E : Type 0} (P : E → Type 0) (r : Result T E) (e : E) → r ≡ Err e → IfErr r P → P e
+if_err P r e is h = subst (λ (o : Result _ _). IfErr o P) is h
+
 -- ---- no block is written
 
 -- an attach failed
@@ -151,8 +158,8 @@ verdict_well (Ok v) status old new before now P (inr h) zero then = absurd (omeg
 verdict_well (Err e) status old new before now P h zero then = absurd (never_zero e (sym h.0 ∙ zero))
 
 -- what stays at a verdict
-pub ok_kept : {T : Type 0} (r : Result T Fault) (x : T) (P : Type 0) → r ≡ Ok x → OnOk r P → P
-ok_kept r x P is h = subst (λ (o : Result _ Fault). OnOk o P) is h
+pub ok_kept : {T E : Type 0} (r : Result T E) (x : T) (P : Type 0) → r ≡ Ok x → OnOk r P → P
+ok_kept r x P is h = subst (λ (o : Result _ _). OnOk o P) is h
 
 -- ---- where nothing fails
 

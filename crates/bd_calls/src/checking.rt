@@ -13,7 +13,7 @@ ghost use Rattle.bd_calls.specs.Run.{IsFlushed};
 
 use crate::calling::{Ended, end_call};
 use crate::format::say;
-use bd_check::{CheckFault, VERDICT_SIZE, Verdict, check};
+use bd_check::{CheckFault, Checked, VERDICT_SIZE, Verdict, check};
 use bd_device::{Attach, Device};
 use bd_io::Sink;
 use bd_keys::Items;
@@ -67,7 +67,12 @@ fn check_device<D: Attach>(alloc: Global, dev: &mut D) -> Result<Verdict, Fault>
         (counts_of D.Device dev.new sink) (D.last_failed dev.new) result }
 {
     let _ = (dev.faults(), dev.blocks());
-    match check(alloc, dev) {
+    let checked = check(alloc, &mut *dev);
+    let Checked {
+        device: _device,
+        found,
+    } = checked;
+    match found {
         Ok(verdict) => Ok(verdict),
         Err(fault) => Err(fault_of(fault)),
     }

@@ -1,17 +1,13 @@
 -- What a check leaves of its device, and what it says of what it found.
-use Rattle.std.proofs.Common.{◌≡◌, ℕ, ◌+◌, ◌≤◌, Bool, Option, Some, IfSome, sym, ap, subst, ◌∙◌, inl, inr, arith}
-use Rattle.std.specs.Prelude.{Result, Ok, Err, OnOk, IfOk, IfErr, IsTrue}
-use Rattle.bd_io.specs.Cause.{next_count}
-use Rattle.bd_device.specs.Blocks.{Image}
-use Rattle.bd_device.specs.Device.{OnlyReads, LastFailed}
+use Rattle.std.proofs.Common.{◌≡◌, ℕ, ◌+◌, ◌≤◌, sym, subst, inl, inr, arith}
+use Rattle.std.specs.Prelude.{Result, Ok, Err, OnOk, IfOk, IfErr}
+use Rattle.bd_device.specs.Device.{OnlyReads}
 use Rattle.bd_device.specs.declared.device.Device.{Ghosts}
 use Rattle.bd_device.proofs.Calls.{reads_stay}
 use Rattle.bd_checkpoint.specs.Recovering.{OnlySettles, HasSettled}
-use Rattle.bd_image.specs.Damage.{IsNamedAt}
-use Rattle.bd_volume.specs.Wears.{WearsReplaying}
 use Rattle.bd_volume.specs.declared.fault.Fault.{Fault}
 use Rattle.bd_volume.specs.declared.fault.Fault.TheVariants.{Device, Damaged, Worn, NoMemory, Full, Stopped}
-use Rattle.bd_check.specs.Causes.{CanStop, IsStop, HasStopCause, IsCheckFault, HasCheckCause, IsSaid}
+use Rattle.bd_check.specs.Causes.{CanStop, IsStop, HasStopCause, HasCheckCause, IsSaid}
 use Rattle.bd_check.specs.Verdicts.{IsRightOf, SaysYes}
 use Rattle.bd_check.specs.declared.fault.CheckFault.{CheckFault}
 use Rattle.bd_check.specs.declared.fault.CheckFault.TheVariants as check
@@ -69,22 +65,12 @@ said_yes (Err NoMemory) said P is h = subst (λ (r : Result Verdict CheckFault).
 said_yes (Err (Full free need)) said P is h = absurd is
 said_yes (Err (Stopped call)) said P is h = absurd is
 
--- the same of a device that was handed on, whose calls are those of the one that it was handed from
-module _ {D E : Type 0} (g : Ghosts D) (old new : D) (k : Ghosts E) (a b : E) (contents : k.contents a ≡ g.contents old) (before : k.fault_count a ≡ g.fault_count old) (after : k.fault_count b ≡ g.fault_count new) (last : k.last_failed b ≡ g.last_failed new) where
-  same_faults : k.fault_count b ≡ k.fault_count a → g.fault_count new ≡ g.fault_count old
-  same_faults same = sym after ∙ same ∙ before
-
-  caused : (found : Result Verdict Fault) → HasStopCause k a b found → (said : Result Verdict CheckFault) → IsSaid found said → HasCheckCause g old new said
-  caused (Ok v) h said is = subst (λ (r : Result Verdict CheckFault). HasCheckCause g old new r) (sym is) (record { kept = same_faults h.kept; failed = tt })
-  caused (Err Device) h said is =
-      let failed : LastFailed g old new = record { one = sym after ∙ h.failed.one ∙ ap next_count before; last = subst (λ (l : Bool). IsTrue l) last h.failed.last } in
-      subst (λ (r : Result Verdict CheckFault). HasCheckCause g old new r) (sym is) (record { kept = tt; failed = failed })
-  caused (Err (Damaged block)) h said is = subst (λ (r : Result Verdict CheckFault). HasCheckCause g old new r) (sym is) (record { kept = same_faults h.failed.1; failed = tt })
-  caused (Err (Worn which)) h said is =
-      subst (λ (r : Result Verdict CheckFault). HasCheckCause g old new r) (sym is) (record { kept = tt; failed = (subst (λ (o : Option Image). IfSome o (λ image. WearsReplaying which image)) contents h.failed.0, same_faults h.failed.1) })
-  caused (Err NoMemory) h said is = subst (λ (r : Result Verdict CheckFault). HasCheckCause g old new r) (sym is) (record { kept = tt; failed = same_faults h.failed })
-  caused (Err (Full free need)) h said is = absurd is
-  caused (Err (Stopped call)) h said is = absurd is
-
-  pub said_cause : (found : Result Verdict Fault) (said : Result Verdict CheckFault) → IsSaid found said → HasStopCause k a b found → HasCheckCause g old new said
-  said_cause found said is h = caused found h said is
+-- the cause of what was found is that of what is said
+pub said_cause : {D : Type 0} (g : Ghosts D) (old new : D) (found : Result Verdict Fault) (said : Result Verdict CheckFault) → IsSaid found said → HasStopCause g old new found → HasCheckCause g old new said
+said_cause {D} g old new (Ok v) said is h = subst (λ (r : Result Verdict CheckFault). HasCheckCause g old new r) (sym is) (record { kept = h.kept; failed = tt })
+said_cause {D} g old new (Err Device) said is h = subst (λ (r : Result Verdict CheckFault). HasCheckCause g old new r) (sym is) (record { kept = tt; failed = h.failed })
+said_cause {D} g old new (Err (Damaged block)) said is h = subst (λ (r : Result Verdict CheckFault). HasCheckCause g old new r) (sym is) (record { kept = h.failed.1; failed = tt })
+said_cause {D} g old new (Err (Worn which)) said is h = subst (λ (r : Result Verdict CheckFault). HasCheckCause g old new r) (sym is) (record { kept = tt; failed = h.failed })
+said_cause {D} g old new (Err NoMemory) said is h = subst (λ (r : Result Verdict CheckFault). HasCheckCause g old new r) (sym is) (record { kept = tt; failed = h.failed })
+said_cause {D} g old new (Err (Full free need)) said is h = absurd is
+said_cause {D} g old new (Err (Stopped call)) said is h = absurd is

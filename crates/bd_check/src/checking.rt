@@ -15,60 +15,54 @@ use bd_pager::Refused;
 use bd_volume::Fault;
 use std::alloc::Global;
 
-/// A verdict on the image of a device. It makes one barrier, and then only reads. It looks first
-/// for the superblock, its table, the root and the records of the log, as a start does; then at
-/// each node of the table, by rising ids; at how often each is named; at the keys of the root, in
-/// their order; and last at each record of the log, whether the map accepts its command. `BadBlock`
-/// names a block that isn't what it has to be; `BadNode` a node that isn't named as often as the
-/// table says, or the root, where no tree has its keys; and `Limit` comes where the first
-/// 16,777,216 keys are of a tree and there are more. From an image that stands for a tree it is a
-/// `Yes`, or `Limit`.
+/// A device that is given up, and what was found out of its image.
+#[derive(Drop)]
+pub struct Checked<D> {
+    pub device: D,
+    pub found: Result<Verdict, CheckFault>,
+}
+
+/// A verdict on the image of a device, and the device again. It makes one barrier, and then only
+/// reads. It looks first for the superblock, its table, the root and the records of the log, as a
+/// start does; then at each node of the table, by rising ids; at how often each is named; at the
+/// keys of the root, in their order; and last at each record of the log, whether the map accepts
+/// its command. `BadBlock` names a block that isn't what it has to be; `BadNode` a node that isn't
+/// named as often as the table says, or the root, where no tree has its keys; and `Limit` comes
+/// where the first 16,777,216 keys are of a tree and there are more. From an image that stands for
+/// a tree it is a `Yes`, or `Limit`.
 ///
 /// `DeviceFault` comes only where a call of the device failed, which is the last one then; `Worn`
 /// only where a counter has no room for a command of the log.
-pub fn check<D: Device>(alloc: Global, dev: &mut D) -> Result<Verdict, CheckFault>
-    ensures verdict { IfOk result (IsRightOf (D.contents dev.old)) }
-    ensures left { OnlySettles D.Device dev.old dev.new }
-    ensures settles { 0 < D.block_count dev.old → ¬ FailsFirst D.Device dev.old dev.new
-        → HasSettled D.Device dev.old dev.new }
-    ensures writes { IfOk result (λ verdict. SaysYes verdict
-        → D.write_fault_count dev.new ≡ D.write_fault_count dev.old) }
-    ensures cause { HasCheckCause D.Device dev.old dev.new result }
-{
-    let checked = check_device(alloc, &mut *dev);
-    let Checked {
-        device: _device,
-        found,
-    } = checked;
-    said(found)
-}
-
-/// A device that was given up, and what was found out of its image.
-#[derive(Drop)]
-struct Checked<D> {
-    device: D,
-    found: Result<Verdict, Fault>,
-}
-
-// The same of a device that is given up. Damage is a fault, or already a verdict.
-fn check_device<D: Device>(alloc: Global, dev: D) -> Checked<D>
+pub fn check<D: Device>(alloc: Global, dev: D) -> Checked<D>
     ensures verdict { IfOk result.found (IsRightOf (D.contents dev)) }
     ensures left { OnlySettles D.Device dev result.device }
     ensures settles { 0 < D.block_count dev → ¬ FailsFirst D.Device dev result.device
         → HasSettled D.Device dev result.device }
-    ensures writes { OnOk result.found
-        (D.write_fault_count result.device ≡ D.write_fault_count dev) }
-    ensures cause { HasStopCause D.Device dev result.device result.found }
+    ensures writes { IfOk result.found (λ verdict. SaysYes verdict
+        → D.write_fault_count result.device ≡ D.write_fault_count dev) }
+    ensures cause { HasCheckCause D.Device dev result.device result.found }
+{
+    let (device, found) = check_device(alloc, dev);
+    Checked {
+        device,
+        found: said(found),
+    }
+}
+
+// The same, where damage is a fault, or already a verdict.
+fn check_device<D: Device>(alloc: Global, dev: D) -> (D, Result<Verdict, Fault>)
+    ensures verdict { IfOk result.1 (IsRightOf (D.contents dev)) }
+    ensures left { OnlySettles D.Device dev result.0 }
+    ensures settles { 0 < D.block_count dev → ¬ FailsFirst D.Device dev result.0
+        → HasSettled D.Device dev result.0 }
+    ensures writes { OnOk result.1 (D.write_fault_count result.0 ≡ D.write_fault_count dev) }
+    ensures cause { HasStopCause D.Device dev result.0 result.1 }
 {
     match recover(alloc, dev, MAX_CACHED) {
-        Ok(recovered) => {
-            let (device, found) = check_recovered(alloc, recovered);
-            Checked { device, found }
-        }
+        Ok(recovered) => check_recovered(alloc, recovered),
         Err(refused) => {
             let Refused { fault, device } = refused;
-            let found = Err(Fault::from(fault));
-            Checked { device, found }
+            (device, Err(Fault::from(fault)))
         }
     }
 }
@@ -85,24 +79,5 @@ fn said(found: Result<Verdict, Fault>) -> Result<Verdict, CheckFault>
         Err(Fault::Worn(counter)) => Err(CheckFault::Worn(counter)),
         Err(Fault::NoMemory) => Err(CheckFault::NoMemory),
         Err(Fault::Full { .. } | Fault::Stopped { .. }) => unreachable!(),
-    }
-}
-
-fn wrapped<D: Device>(alloc: Global, dev: D) -> Result<Checked<D>, CheckFault>
-    ensures { IfOk result (λ r. OnlySettles D.Device dev r.device) }
-{
-    let checked = check_device(alloc, dev);
-    Ok(checked)
-}
-
-fn check_f<D: Device>(alloc: Global, dev: &mut D) -> Result<Verdict, CheckFault>
-    ensures { OnOk result (D.contents dev.new ≡ D.contents dev.old) }
-{
-    match wrapped(alloc, &mut *dev) {
-        Ok(checked) => {
-            let Checked { device: _device, found: _found } = checked;
-            Ok(Verdict::Limit)
-        }
-        Err(fault) => Err(fault),
     }
 }

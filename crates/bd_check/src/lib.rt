@@ -14,7 +14,7 @@ mod nodes;
 mod recovered;
 mod verdict;
 
-pub use checking::check;
+pub use checking::{Checked, check};
 pub use fault::CheckFault;
 pub use line::VERDICT_SIZE;
 pub use verdict::Verdict;

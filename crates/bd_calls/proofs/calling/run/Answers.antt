@@ -11,8 +11,7 @@ use Rattle.bd_shell.proofs.Moving.{is_caused_beside}
 use Rattle.bd_calls.specs.Offered.{call_at}
 use Rattle.bd_calls.proofs.Offered.{for_offered, never_refused}
 use Rattle.bd_calls.proofs.Runs.{of_call, ended_well, ok_of_none, well_counts, run_complete, cause_of}
-use Rattle.bd_calls.proofs.Checks.{check_complete, check_used, ok_kept, verdict_well}
-use Rattle.bd_check.proofs.Recoveries.{if_ok}
+use Rattle.bd_calls.proofs.Checks.{check_complete, check_used, if_ok, ok_kept, verdict_well}
 use Rattle.bd_calls.proofs.Fills.{fill_complete, fill_device, fill_short, told_done, told_well}
 use Rattle.bd_calls.proofs.Unread.{complete_unread, does_unread, makes_unread, none_is, of_none, uses_unread}
 use Rattle.bd_calls.proofs.calling.run.Goals as goal

@@ -8,27 +8,27 @@ use Rattle.bd_check.proofs.Recoveries.{cause_after, cause_image, found_named, is
 use Rattle.bd_check.proofs.Settled.{on_any, settles_read, settled_on}
 use Rattle.bd_check.proofs.checking.check_device.Goals as goal
 
-pub check_recovered-device-requires : goal.check_recovered-device-requires
-check_recovered-device-requires g c =
+pub check_recovered-requires : goal.check_recovered-requires
+check_recovered-requires g c =
     let h = c.in-Ok.ensures in
     is_recovered g.D.Device (g.D.Device.contents c.args.dev) c.in-Ok.recovered h.reads.kept h.opened h.open h.room h.known h.stored h.batches h.idle h.commands
 
 pub returns-in-Ok-clause-verdict : goal.returns-in-Ok-clause-verdict
 returns-in-Ok-clause-verdict g c =
-    subst (λ (o : Option Image). IfOk c.check_recovered-device.result.1 (IsRightOf o)) c.in-Ok.ensures.reads.kept c.check_recovered-device.ensures.verdict
+    subst (λ (o : Option Image). IfOk c.check_recovered.result.1 (IsRightOf o)) c.in-Ok.ensures.reads.kept c.check_recovered.ensures.verdict
 
 pub returns-in-Ok-clause-left : goal.returns-in-Ok-clause-left
-returns-in-Ok-clause-left g c = settles_read g.D.Device c.args.dev c.check_recovered-device.result.0 (reads_then c.in-Ok.ensures.reads c.check_recovered-device.ensures.reads)
+returns-in-Ok-clause-left g c = settles_read g.D.Device c.args.dev c.check_recovered.result.0 (reads_then c.in-Ok.ensures.reads c.check_recovered.ensures.reads)
 
 pub returns-in-Ok-clause-settles : goal.returns-in-Ok-clause-settles
-returns-in-Ok-clause-settles g c = λ some calm. settled_on g.D.Device c.args.dev c.in-Ok.recovered.pager.dev c.check_recovered-device.result.0 c.in-Ok.ensures.settled c.check_recovered-device.ensures.reads
+returns-in-Ok-clause-settles g c = λ some calm. settled_on g.D.Device c.args.dev c.in-Ok.recovered.pager.dev c.check_recovered.result.0 c.in-Ok.ensures.settled c.check_recovered.ensures.reads
 
 pub returns-in-Ok-clause-writes : goal.returns-in-Ok-clause-writes
-returns-in-Ok-clause-writes g c = on_any c.check_recovered-device.result.1 _ (c.check_recovered-device.ensures.reads.write_faults ∙ c.in-Ok.ensures.reads.write_faults)
+returns-in-Ok-clause-writes g c = on_any c.check_recovered.result.1 _ (c.check_recovered.ensures.reads.write_faults ∙ c.in-Ok.ensures.reads.write_faults)
 
 pub returns-in-Ok-clause-cause : goal.returns-in-Ok-clause-cause
 returns-in-Ok-clause-cause g c =
-    cause_after g.D.Device c.check_recovered-device.result.1 c.args.dev c.in-Ok.recovered.pager.dev c.check_recovered-device.result.0 c.in-Ok.ensures.reads.kept c.in-Ok.ensures.faults c.check_recovered-device.ensures.cause
+    cause_after g.D.Device c.check_recovered.result.1 c.args.dev c.in-Ok.recovered.pager.dev c.check_recovered.result.0 c.in-Ok.ensures.reads.kept c.in-Ok.ensures.faults c.check_recovered.ensures.cause
 
 pub returns-in-Err-clause-cause : goal.returns-in-Err-clause-cause
 returns-in-Err-clause-cause g c =
