@@ -17,7 +17,7 @@ use Rattle.bd_device.specs.declared.device.Device.{Ghosts}
 use Rattle.bd_device.proofs.Moments.{goes_on, by_name}
 use Rattle.bd_image.specs.ImageTree.{ImageStandsFor}
 use Rattle.bd_checkpoint.specs.Recovering.{OnlySettles, HasSettled, FailsFirst}
-use Rattle.bd_check.specs.Causes.{IsCheckFault, HasCheckCause}
+use Rattle.bd_check.specs.Causes.{HasCheckCause}
 use Rattle.bd_check.specs.Lines.{verdict_line}
 use Rattle.bd_check.specs.Verdicts.{IsRightOf, IsVerdictOn, SaysYes}
 use Rattle.bd_check.specs.declared.fault.CheckFault.{CheckFault}
@@ -28,7 +28,7 @@ use Rattle.bd_shell.specs.declared.fault.Fault.{Fault}
 use Rattle.bd_shell.specs.declared.fault.Fault.TheVariants.{Device, Damaged, Source, Memory, TooLong, Worn, Sink}
 use Rattle.bd_shell.specs.Fault.{status_of, fault_line, Faults, faults, Caused, IsCaused}
 use Rattle.bd_shell.specs.Shell.{counts_of}
-use Rattle.bd_calls.specs.Check.{HasFoundTree, KeepsFromAnswering, KeepsImage, IsFaultOf, TellsVerdict, verdict_status}
+use Rattle.bd_calls.specs.Check.{HasFoundTree, KeepsFromAnswering, KeepsImage, IsAnswer, TellsVerdict, verdict_status}
 use Rattle.bd_calls.specs.Fill.{WritesSome}
 use Rattle.bd_calls.specs.Work.{Disk, disk, IsUnopened}
 use Rattle.bd_calls.specs.Run.{EndsUnfailed, IsDetached, IsFaultless, Seen}
@@ -38,9 +38,6 @@ use Rattle.bd_calls.proofs.Runs.{IsUnmade, disk_of, next_few, rose_or_not, rose_
 -- what is said of a result holds of what it has
 pub if_ok : {T E : Type 0} (P : T → Type 0) (r : Result T E) (x : T) → r ≡ Ok x → IfOk r P → P x
 if_ok P r x is h = subst (λ (o : Result _ _). IfOk o P) is h
-
-pub if_err : {T E : Type 0} (P : E → Type 0) (r : Result T E) (e : E) → r ≡ Err e → IfErr r P → P e
-if_err P r e is h = subst (λ (o : Result _ _). IfErr o P) is h
 
 -- ---- no block is written
 
@@ -96,12 +93,27 @@ module _ {D : Type 0} (g : Ghosts D) where
       by some (inr few) (inl rose) = inr (record { none = refl; why = inr (few, rose) })
       by some (inr few) (inr unrisen) = inl (only (settles some (λ first. unrisen first.rose)))
 
-  -- ---- faults
+  -- ---- what was found
 
-  pub check_why : (old new : D) (fault : CheckFault) (e : Fault) → IsFaultOf fault e → IsCheckFault g old new fault → KeepsFromAnswering (g.contents old) e
-  check_why old new check.DeviceFault e is h = subst (KeepsFromAnswering (g.contents old)) (sym is) tt
-  check_why old new (check.Worn which) e is h = subst (KeepsFromAnswering (g.contents old)) (sym is) h.0
-  check_why old new check.NoMemory e is h = subst (KeepsFromAnswering (g.contents old)) (sym is) tt
+  pub answer_right : (known : Option Image) (found : Result Verdict CheckFault) (answer : Result Verdict Fault) → IsAnswer found answer → IfOk found (IsRightOf known) → IfOk answer (IsRightOf known)
+  answer_right known (Ok v) answer is h = subst (λ (r : Result Verdict Fault). IfOk r (IsRightOf known)) (sym is) h
+  answer_right known (Err check.DeviceFault) answer is h = subst (λ (r : Result Verdict Fault). IfOk r (IsRightOf known)) (sym is) tt
+  answer_right known (Err (check.Worn which)) answer is h = subst (λ (r : Result Verdict Fault). IfOk r (IsRightOf known)) (sym is) tt
+  answer_right known (Err check.NoMemory) answer is h = subst (λ (r : Result Verdict Fault). IfOk r (IsRightOf known)) (sym is) tt
+
+  pub answer_writes : (P : Type 0) (found : Result Verdict CheckFault) (answer : Result Verdict Fault) → IsAnswer found answer → IfOk found (λ v. SaysYes v → P) → IfOk answer (λ v. SaysYes v → P)
+  answer_writes P (Ok v) answer is h = subst (λ (r : Result Verdict Fault). IfOk r (λ v. SaysYes v → P)) (sym is) h
+  answer_writes P (Err check.DeviceFault) answer is h = subst (λ (r : Result Verdict Fault). IfOk r (λ v. SaysYes v → P)) (sym is) tt
+  answer_writes P (Err (check.Worn which)) answer is h = subst (λ (r : Result Verdict Fault). IfOk r (λ v. SaysYes v → P)) (sym is) tt
+  answer_writes P (Err check.NoMemory) answer is h = subst (λ (r : Result Verdict Fault). IfOk r (λ v. SaysYes v → P)) (sym is) tt
+
+  pub answer_why : (old new : D) (found : Result Verdict CheckFault) (answer : Result Verdict Fault) → IsAnswer found answer → HasCheckCause g old new found → IfErr answer (KeepsFromAnswering (g.contents old))
+  answer_why old new (Ok v) answer is h = subst (λ (r : Result Verdict Fault). IfErr r (KeepsFromAnswering (g.contents old))) (sym is) tt
+  answer_why old new (Err check.DeviceFault) answer is h = subst (λ (r : Result Verdict Fault). IfErr r (KeepsFromAnswering (g.contents old))) (sym is) tt
+  answer_why old new (Err (check.Worn which)) answer is h = subst (λ (r : Result Verdict Fault). IfErr r (KeepsFromAnswering (g.contents old))) (sym is) h.failed.0
+  answer_why old new (Err check.NoMemory) answer is h = subst (λ (r : Result Verdict Fault). IfErr r (KeepsFromAnswering (g.contents old))) (sym is) tt
+
+  -- ---- faults
 
   all_kept : (old new : D) (sink : ℕ) → g.fault_count new ≡ g.fault_count old → counts_of g new sink ≡ counts_of g old sink
   all_kept old new sink same = ap (λ (n : ℕ). faults n 0 sink) same
@@ -121,18 +133,20 @@ module _ {D : Type 0} (g : Ghosts D) where
     cause = cause (all_kept old new sink same);
   }
 
-  pub caused_check : {T : Type 0} (old new : D) (sink : ℕ) (fault : CheckFault) (e : Fault) → g.fault_count old < 2 ^ 64 → IsFaultOf fault e → IsCheckFault g old new fault
-      → IsCaused {T = T} (counts_of g old sink) (counts_of g new sink) (g.last_failed new) (Err e)
-  caused_check {T} old new sink check.DeviceFault e low is h =
-      subst (λ (f : Fault). IsCaused {T = T} (counts_of g old sink) (counts_of g new sink) (g.last_failed new) (Err f)) (sym is) (record {
-        later = record { device = omega (arith, low, h.one); source = omega arith; sink = omega arith };
+  pub caused_check : (old new : D) (sink : ℕ) → g.fault_count old < 2 ^ 64 → (found : Result Verdict CheckFault) (answer : Result Verdict Fault) → IsAnswer found answer → HasCheckCause g old new found
+      → IsCaused (counts_of g old sink) (counts_of g new sink) (g.last_failed new) answer
+  caused_check old new sink low (Ok v) answer is h =
+      subst (λ (r : Result Verdict Fault). IsCaused (counts_of g old sink) (counts_of g new sink) (g.last_failed new) r) (sym is) (caused_ok old new sink v h.kept)
+  caused_check old new sink low (Err check.DeviceFault) answer is h =
+      subst (λ (r : Result Verdict Fault). IsCaused (counts_of g old sink) (counts_of g new sink) (g.last_failed new) r) (sym is) (record {
+        later = record { device = omega (arith, low, h.failed.one); source = omega arith; sink = omega arith };
         kept = tt;
-        cause = (h.one, h.last, refl);
+        cause = (h.failed.one, h.failed.last, refl);
       })
-  caused_check {T} old new sink (check.Worn which) e low is h =
-      subst (λ (f : Fault). IsCaused {T = T} (counts_of g old sink) (counts_of g new sink) (g.last_failed new) (Err f)) (sym is) (caused_same {T = T} old new sink (Worn which) h.1 (λ same. same))
-  caused_check {T} old new sink check.NoMemory e low is h =
-      subst (λ (f : Fault). IsCaused {T = T} (counts_of g old sink) (counts_of g new sink) (g.last_failed new) (Err f)) (sym is) (caused_same {T = T} old new sink Memory h (λ same. same))
+  caused_check old new sink low (Err (check.Worn which)) answer is h =
+      subst (λ (r : Result Verdict Fault). IsCaused (counts_of g old sink) (counts_of g new sink) (g.last_failed new) r) (sym is) (caused_same {T = Verdict} old new sink (Worn which) h.failed.1 (λ same. same))
+  caused_check old new sink low (Err check.NoMemory) answer is h =
+      subst (λ (r : Result Verdict Fault). IsCaused (counts_of g old sink) (counts_of g new sink) (g.last_failed new) r) (sym is) (caused_same {T = Verdict} old new sink Memory h.failed (λ same. same))
 
 -- ---- what is written
 

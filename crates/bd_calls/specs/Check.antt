@@ -29,11 +29,12 @@ verdict_status (BadBlock block) = 10
 verdict_status (BadNode id) = 10
 verdict_status Limit = 10
 
--- the fault of the program
-abbrev pub IsFaultOf : CheckFault → Fault → Type 0
-IsFaultOf check.DeviceFault fault = fault ≡ Device
-IsFaultOf (check.Worn which) fault = fault ≡ Worn which
-IsFaultOf check.NoMemory fault = fault ≡ Memory
+-- what was found, with the fault of the program
+abbrev pub IsAnswer : Result Verdict CheckFault → Result Verdict Fault → Type 0
+IsAnswer (Ok verdict) answer = answer ≡ Ok verdict
+IsAnswer (Err check.DeviceFault) answer = answer ≡ Err Device
+IsAnswer (Err (check.Worn which)) answer = answer ≡ Err (Worn which)
+IsAnswer (Err check.NoMemory) answer = answer ≡ Err Memory
 
 -- what comes before a verdict: a fault of the device, want of memory, or a counter that has no room
 -- for a command of the image's log, as far as the image is known

@@ -7,7 +7,7 @@ ghost use Rattle.bd_check.specs.Verdicts.{IsRightOf, SaysYes};
 ghost use Rattle.bd_check.specs.declared.verdict.Verdict.{Verdict};
 ghost use Rattle.bd_shell.specs.Fault.{IsCaused};
 ghost use Rattle.bd_shell.specs.Shell.{counts_of};
-ghost use Rattle.bd_calls.specs.Check.{KeepsFromAnswering, KeepsImage, IsFaultOf, TellsVerdict, verdict_status};
+ghost use Rattle.bd_calls.specs.Check.{KeepsFromAnswering, KeepsImage, IsAnswer, TellsVerdict, verdict_status};
 ghost use Rattle.bd_calls.specs.Work.{disk};
 ghost use Rattle.bd_calls.specs.Run.{IsFlushed};
 
@@ -72,20 +72,18 @@ fn check_device<D: Attach>(alloc: Global, dev: &mut D) -> Result<Verdict, Fault>
         device: _device,
         found,
     } = checked;
-    match found {
-        Ok(verdict) => Ok(verdict),
-        Err(fault) => Err(fault_of(fault)),
-    }
+    answer_of(found)
 }
 
-// The fault of the program.
-fn fault_of(fault: CheckFault) -> Fault
-    ensures { IsFaultOf fault result }
+// What was found, with the fault of the program.
+fn answer_of(found: Result<Verdict, CheckFault>) -> Result<Verdict, Fault>
+    ensures { IsAnswer found result }
 {
-    match fault {
-        CheckFault::DeviceFault => Fault::Device,
-        CheckFault::Worn(counter) => Fault::Worn(counter),
-        CheckFault::NoMemory => Fault::Memory,
+    match found {
+        Ok(verdict) => Ok(verdict),
+        Err(CheckFault::DeviceFault) => Err(Fault::Device),
+        Err(CheckFault::Worn(counter)) => Err(Fault::Worn(counter)),
+        Err(CheckFault::NoMemory) => Err(Fault::Memory),
     }
 }
 
