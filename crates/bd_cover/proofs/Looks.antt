@@ -1,10 +1,11 @@
 -- What is seen at a node, and on the walk.
-use Rattle.std.proofs.Common.{◌≡◌, ℕ, ◌+◌, ◌<◌, ◌≤◌, Bool, true, IsTrue, List, [], ◌∷◌, length, reverse, get_or, refl, sym, ap, subst, ◌∙◌, Option, None, Some, arith, inl, inr, Result, Ok, Err}
+use Rattle.std.proofs.Common.{◌≡◌, ℕ, ◌+◌, ◌<◌, ◌≤◌, Bool, true, IsTrue, List, [], ◌∷◌, length, reverse, drop, get_or, refl, sym, ap, subst, ◌∙◌, Option, None, Some, arith, inl, inr, Result, Ok, Err}
 use Rattle.std.specs.Prelude.{slice_get, MatchOption, IfOk, IfSome, ⊤}
 use Rattle.std.specs.List.{AllByRecursion}
 use Rattle.std.proofs.lemmas.Bool.{cases_eq}
 use Rattle.std.proofs.lemmas.List.{reverse-append}
 use Rattle.std.proofs.lemmas.Option.{same_Some, slice_get_read}
+use Rattle.bd_limits.specs.Limits.{edge_limit}
 use Rattle.bd_node.specs.declared.node.Edge.{Edge}
 use Rattle.bd_node.specs.declared.node.Node.{Node}
 use Rattle.bd_node.specs.Nodes.{names}
@@ -15,7 +16,9 @@ use Rattle.bd_node.specs.Tables.{Table, IsLower, IsSound}
 use Rattle.bd_node.proofs.Lookup.{named_has}
 use Rattle.bd_node.proofs.Privacy.{root_private}
 use Rattle.bd_node.proofs.Sound.{node_of}
-use Rattle.bd_node.specs.Parts.{edges_of, IsEdgeAt}
+use Rattle.bd_node.specs.Parts.{edges_of, end_at, IsEdgeAt}
+use Rattle.bd_node.specs.Shape.{end_before}
+use Rattle.bd_copy.specs.Narrowing.{IsAsking}
 use Rattle.bd_path.specs.declared.fetching.Fetched.{Fetched}
 use Rattle.bd_path.specs.Fetching.{IsFetched, IsContents, IsOwn}
 use Rattle.bd_node.proofs.Parts.{edge_within}
@@ -26,11 +29,14 @@ use Rattle.bd_cover.specs.declared.walking.Reclaim.{Reclaim}
 use Rattle.bd_cover.specs.declared.walking.Reclaim.TheVariants.{Shrink, Drop, Redirect, Bare, Trim, Push}
 use Rattle.bd_cover.specs.Bare.{HasChildAt, IsBareAt, HasNoBare}
 use Rattle.bd_cover.specs.Covering.{IsCovered, HasNoCovered, HasCut, HasNoCut, IsFirstCut}
-use Rattle.bd_cover.specs.Trimming.{IsWalked, IsTrimAt, HasNoTrim}
+use Rattle.bd_cover.specs.Trimming.{IsWalked, IsTrimWay, IsTrimAt, HasNoTrim}
 use Rattle.bd_cover.specs.Walking.{IsUnder, IsThinWay, IsThin, IsNoThinRoot, IsClean, IsFirstAt, HasNone, AreClean, IsDue, IsToDo, IsMadeAt, IsToDoAt, IsWayBetween, IsFoundFrom, IsFoundIn, IsBelow, HasNoneAbove}
 use Rattle.bd_cover.specs.Walking.IsUnder.{itself, through}
 use Rattle.bd_cover.specs.Walking.IsDue.{here, trim, bare, below}
 use Rattle.bd_cover.specs.Walking.IsWayBetween.{at_top}
+use Rattle.bd_cover.proofs.Covers.{end_read}
+use Rattle.bd_cover.proofs.Decided.{few_edges}
+use Rattle.bd_cover.proofs.Trimmed.{asking_at}
 use Rattle.bd_cover.proofs.WaysUp.{way_longer, way_up, way_own, contents_more}
 
 -- ---- at a node
@@ -117,61 +123,60 @@ there_here pushes nodes t f (Push above node place) there private first = subst 
 there_below : (pushes : Bool) (nodes : Nodes) (t : Table) (step : Reclaim) (id : ℕ) → IsSound nodes t → IsPrivate nodes t id → IsDue pushes nodes t step id → IsMadeAt nodes t step
 there_below pushes nodes t step id sound private (here f there first) = there_here pushes nodes t f step there private first
 there_below pushes nodes t step id sound private (trim f place there clean at_place is) = subst (λ (s : Reclaim). IsMadeAt nodes t s) (sym is) (record { private = private; there = there }, at_place)
-there_below pushes nodes t step id sound private (bare f place there clean no_trim at_place is) = subst (λ (s : Reclaim). IsMadeAt nodes t s) (sym is) (record { private = private; there = there }, at_place)
-there_below pushes nodes t step id sound private (below _ place c n e there clean no_trim at_place walked due) =
+there_below pushes nodes t step id sound private (bare f place there clean at_place is) = subst (λ (s : Reclaim). IsMadeAt nodes t s) (sym is) (record { private = private; there = there }, at_place)
+there_below pushes nodes t step id sound private (below _ place c n e there clean not_trim at_place walked due) =
     there_below pushes nodes t step c sound
     (alone id c n private there (edge_named n place c e (node_of nodes t sound id n there).shape (record { here = at_place; child_is = walked.child_is })) walked.once) due
 
 -- ---- the walk
 
--- nothing is to be changed below the edges before a place
+-- where the keys of an edge end
+abbrev pub end_after : List Edge → ℕ → Option (List ℕ)
+end_after edges place = end_before (drop (place + 1) edges)
+
+-- an edge's child has no more than the edge asks for, and nothing is to be changed below it
+abbrev pub HasNoneAt : Bool → Nodes → Table → List Edge → ℕ → Edge → ℕ → Type 0
+HasNoneAt pushes nodes t edges place e c = HasNone pushes nodes t c × (IsTrimWay nodes t e (end_after edges place) → ⊥)
+
+-- so it is of the edges before a place
 abbrev pub HasNoneBefore : Bool → Nodes → Table → List Edge → ℕ → Type 0
-HasNoneBefore pushes nodes t edges place = (i c : ℕ) (e : Edge) → i < place → slice_get edges i ≡ Some e → IsWalked t e c → HasNone pushes nodes t c
+HasNoneBefore pushes nodes t edges place = (i c : ℕ) (e : Edge) → i < place → slice_get edges i ≡ Some e → IsWalked t e c → HasNoneAt pushes nodes t edges i e c
 
-none_under : (pushes : Bool) (nodes : Nodes) (t : Table) (x from : ℕ) → IsUnder nodes t x from → (n : Node) → nodes from ≡ Some n → IsClean pushes t from n → HasNoTrim nodes t n → HasNoBare nodes n → HasNoneBefore pushes nodes t (edges_of n) (length (edges_of n)) → (m : Node) → nodes x ≡ Some m → IsClean pushes t x m × HasNoTrim nodes t m × HasNoBare nodes m
-none_under pushes nodes t x from itself n there clean no_trim no_bare before m at_x = subst (λ (k : Node). IsClean pushes t x k × HasNoTrim nodes t k × HasNoBare nodes k) (same_Some n m (sym there ∙ at_x)) (clean, no_trim, no_bare)
-none_under pushes nodes t x from (through _ place c k e at_from at_place walked rest) n there clean no_trim no_bare before m at_x =
+none_under : (pushes : Bool) (nodes : Nodes) (t : Table) (x from : ℕ) → IsUnder nodes t x from → (n : Node) → nodes from ≡ Some n → IsClean pushes t from n → HasNoBare nodes n → HasNoneBefore pushes nodes t (edges_of n) (length (edges_of n)) → (m : Node) → nodes x ≡ Some m → IsClean pushes t x m × HasNoTrim nodes t m × HasNoBare nodes m
+none_under pushes nodes t x from itself n there clean no_bare before m at_x =
+    subst (λ (k : Node). IsClean pushes t x k × HasNoTrim nodes t k × HasNoBare nodes k) (same_Some n m (sym there ∙ at_x))
+    (clean, (λ place b. (before place b.trim.child b.edge (edge_within n place b.edge b.here) b.here b.trim.walked).1 b.trim), no_bare)
+none_under pushes nodes t x from (through _ place c k e at_from at_place walked rest) n there clean no_bare before m at_x =
     let own : IsEdgeAt n place e = subst (λ (i : Node). IsEdgeAt i place e) (same_Some k n (sym at_from ∙ there)) at_place in
-    before place c e (edge_within n place e own) own walked x m rest at_x
+    (before place c e (edge_within n place e own) own walked).0 x m rest at_x
 
-none_from : (pushes : Bool) (nodes : Nodes) (t : Table) (id : ℕ) (n : Node) → nodes id ≡ Some n → IsClean pushes t id n → HasNoTrim nodes t n → HasNoBare nodes n → HasNoneBefore pushes nodes t (edges_of n) (length (edges_of n)) → HasNone pushes nodes t id
-none_from pushes nodes t id n there clean no_trim no_bare before x m under at_x = none_under pushes nodes t x id under n there clean no_trim no_bare before m at_x
+none_from : (pushes : Bool) (nodes : Nodes) (t : Table) (id : ℕ) (n : Node) → nodes id ≡ Some n → IsClean pushes t id n → HasNoBare nodes n → HasNoneBefore pushes nodes t (edges_of n) (length (edges_of n)) → HasNone pushes nodes t id
+none_from pushes nodes t id n there clean no_bare before x m under at_x = none_under pushes nodes t x id under n there clean no_bare before m at_x
 
-pub none_past : (pushes : Bool) (nodes : Nodes) (t : Table) (edges : List Edge) (place : ℕ) (e : Edge) → HasNoneBefore pushes nodes t edges place → slice_get edges place ≡ Some e → ((c : ℕ) → IsWalked t e c → HasNone pushes nodes t c) → HasNoneBefore pushes nodes t edges (place + 1)
+pub none_past : (pushes : Bool) (nodes : Nodes) (t : Table) (edges : List Edge) (place : ℕ) (e : Edge) → HasNoneBefore pushes nodes t edges place → slice_get edges place ≡ Some e → ((c : ℕ) → IsWalked t e c → HasNoneAt pushes nodes t edges place e c) → HasNoneBefore pushes nodes t edges (place + 1)
 none_past pushes nodes t edges place e before at_place none i c f low at_i walked =
     elim (cases_eq i place) [
       | inl same ↦
           let own : f ≡ e = same_Some f e (sym at_i ∙ ap (λ (j : ℕ). slice_get edges j) same ∙ at_place) in
-          none c (subst (λ (x : Edge). IsWalked t x c) own walked)
+          subst (λ (j : ℕ). HasNoneAt pushes nodes t edges j f c) (sym same)
+          (subst (λ (x : Edge). HasNoneAt pushes nodes t edges place x c) (sym own) (none c (subst (λ (x : Edge). IsWalked t x c) own walked)))
       | inr other ↦ before i c f (omega arith) at_i walked
     ]
 
 -- of an edge without a child for the walk, and of one below which there is none
-pub none_of_child : (pushes : Bool) (nodes : Nodes) (t : Table) (e : Edge) (child : ℕ) → IsWalked t e child → HasNone pushes nodes t child → (c : ℕ) → IsWalked t e c → HasNone pushes nodes t c
-none_of_child pushes nodes t e child walked none c other = subst (λ (i : ℕ). HasNone pushes nodes t i) (same_Some child c (sym walked.child_is ∙ other.child_is)) none
+pub none_of_child : (pushes : Bool) (nodes : Nodes) (t : Table) (edges : List Edge) (place : ℕ) (e : Edge) (child : ℕ) → IsWalked t e child → HasNone pushes nodes t child → (IsTrimWay nodes t e (end_after edges place) → ⊥) → (c : ℕ) → IsWalked t e c → HasNoneAt pushes nodes t edges place e c
+none_of_child pushes nodes t edges place e child walked none not_trim c other = (subst (λ (i : ℕ). HasNone pushes nodes t i) (same_Some child c (sym walked.child_is ∙ other.child_is)) none, not_trim)
 
 pub due_here : (pushes : Bool) (nodes : Nodes) (t : Table) (step : Reclaim) (id : ℕ) (f : Fetched) → f.id ≡ id → nodes id ≡ Some f.node.value → IsFirstAt pushes t f step → IsDue pushes nodes t step id
 due_here pushes nodes t step id f same there first = subst (λ (i : ℕ). IsDue pushes nodes t step i) same (here f (ap nodes same ∙ there) first)
 
-pub due_trim : (pushes : Bool) (nodes same_nodes : Nodes) (t same_t : Table) (id : ℕ) (f clean : Fetched) (place : ℕ) → f.id ≡ id → nodes id ≡ Some f.node.value → clean ≡ f → same_nodes ≡ nodes → same_t ≡ t → IsClean pushes t f.id f.node.value → IsTrimAt same_nodes same_t clean.node.value place → IsDue pushes nodes t (Trim clean place) id
-due_trim pushes nodes same_nodes t same_t id f clean place same there same_f e_nodes e_t is_clean at_place =
-    subst (λ (i : ℕ). IsDue pushes nodes t (Trim clean place) i) same
-    (trim f place (ap nodes same ∙ there) is_clean (subst (λ (x : Fetched). IsTrimAt nodes t x.node.value place) same_f (subst (λ (u : Table). IsTrimAt nodes u clean.node.value place) e_t (subst (λ (m : Nodes). IsTrimAt m same_t clean.node.value place) e_nodes at_place))) (ap (λ (x : Fetched). Trim x place) same_f))
-
-pub no_trim_back : (nodes same_nodes : Nodes) (t same_t : Table) (f clean : Fetched) → same_nodes ≡ nodes → same_t ≡ t → clean ≡ f → HasNoTrim same_nodes same_t clean.node.value → HasNoTrim nodes t f.node.value
-no_trim_back nodes same_nodes t same_t f clean e_nodes e_t same none =
-    subst (λ (x : Fetched). HasNoTrim nodes t x.node.value) same (subst (λ (u : Table). HasNoTrim nodes u clean.node.value) e_t (subst (λ (m : Nodes). HasNoTrim m same_t clean.node.value) e_nodes none))
-
-pub due_bare : (pushes : Bool) (nodes same_nodes : Nodes) (t : Table) (id : ℕ) (f clean : Fetched) (place : ℕ) → f.id ≡ id → nodes id ≡ Some f.node.value → clean ≡ f → same_nodes ≡ nodes → IsClean pushes t f.id f.node.value → HasNoTrim nodes t f.node.value → IsBareAt same_nodes clean.node.value place → IsDue pushes nodes t (Bare clean place) id
-due_bare pushes nodes same_nodes t id f clean place same there same_f e_nodes is_clean no_trim at_place =
+pub due_bare : (pushes : Bool) (nodes same_nodes : Nodes) (t : Table) (id : ℕ) (f clean : Fetched) (place : ℕ) → f.id ≡ id → nodes id ≡ Some f.node.value → clean ≡ f → same_nodes ≡ nodes → IsClean pushes t f.id f.node.value → IsBareAt same_nodes clean.node.value place → IsDue pushes nodes t (Bare clean place) id
+due_bare pushes nodes same_nodes t id f clean place same there same_f e_nodes is_clean at_place =
     subst (λ (i : ℕ). IsDue pushes nodes t (Bare clean place) i) same
-    (bare f place (ap nodes same ∙ there) is_clean no_trim (subst (λ (x : Fetched). IsBareAt nodes x.node.value place) same_f (subst (λ (m : Nodes). IsBareAt m clean.node.value place) e_nodes at_place)) (ap (λ (x : Fetched). Bare x place) same_f))
+    (bare f place (ap nodes same ∙ there) is_clean (subst (λ (x : Fetched). IsBareAt nodes x.node.value place) same_f (subst (λ (m : Nodes). IsBareAt m clean.node.value place) e_nodes at_place)) (ap (λ (x : Fetched). Bare x place) same_f))
 
 pub bare_to_do : (t : Table) (id : ℕ) (f clean : Fetched) (place : ℕ) → IsFetched t f → clean ≡ f → HasChildAt clean.node.value place → IsFoundFrom t id (Bare clean place)
 bare_to_do t id f clean place fetched same child = (subst (λ (x : Fetched). IsFetched t x) (sym same) fetched, child)
-
-pub trim_to_do : (t : Table) (id : ℕ) (f clean : Fetched) (place : ℕ) → IsFetched t f → clean ≡ f → HasChildAt clean.node.value place → IsFoundFrom t id (Trim clean place)
-trim_to_do t id f clean place fetched same child = (subst (λ (x : Fetched). IsFetched t x) (sym same) fetched, child)
 
 pub clean_fetched : (t same_t : Table) (f clean : Fetched) → same_t ≡ t → clean ≡ f → IsFetched t f → IsFetched same_t clean
 clean_fetched t same_t f clean e_t same fetched = subst (λ (x : Fetched). IsFetched same_t x) (sym same) (subst (λ (u : Table). IsFetched u f) (sym e_t) fetched)
@@ -200,15 +205,55 @@ edge_at t f clean shown es place e h =
 pub edge_lower : (t : Table) (f clean : Fetched) (shown : Node) (es : List Edge) (place : ℕ) (e : Edge) → IsAtEdge t f clean shown es place e → (c : ℕ) → e.child ≡ Some c → IsLower t (t.level f.id) c
 edge_lower t f clean shown es place e h c child = child_lower t f place e c h.fetched (edge_at t f clean shown es place e h) child
 
-pub due_below : (pushes : Bool) (nodes : Nodes) (t : Table) (step : Reclaim) (id : ℕ) (f clean : Fetched) (shown : Node) (es : List Edge) (place : ℕ) (e : Edge) (c : ℕ) → IsAtEdge t f clean shown es place e → f.id ≡ id → nodes id ≡ Some f.node.value → IsClean pushes t f.id f.node.value
-    → HasNoTrim nodes t f.node.value → IsWalked t e c → IsDue pushes nodes t step c → IsDue pushes nodes t step id
-due_below pushes nodes t step id f clean shown es place e c h same there is_clean no_trim walked due =
-    below id place c f.node.value e there (subst (λ (i : ℕ). IsClean pushes t i f.node.value) same is_clean) no_trim (edge_at t f clean shown es place e h) walked due
+edge_end : (t : Table) (f clean : Fetched) (shown : Node) (es : List Edge) (place : ℕ) (e : Edge) → IsAtEdge t f clean shown es place e → end_after es place ≡ end_at f.node.value place
+edge_end t f clean shown es place e h = end_read f.node.value es place (end_after es place) (edges_are f clean shown es h.same h.shown_is h.edges) refl
 
-pub none_at_end : (pushes : Bool) (nodes same_nodes : Nodes) (t : Table) (id : ℕ) (f clean : Fetched) (shown : Node) (es : List Edge) (place : ℕ) → clean ≡ f → shown ≡ clean.node.value → es ≡ edges_of shown → f.id ≡ id → nodes id ≡ Some f.node.value → IsClean pushes t f.id f.node.value → HasNoTrim nodes t f.node.value → same_nodes ≡ nodes
+pub edge_asking : (t : Table) (f clean : Fetched) (shown : Node) (es : List Edge) (place : ℕ) (e : Edge) (c : ℕ) (hi : Option (List ℕ)) → IsAtEdge t f clean shown es place e → IsWalked t e c → hi ≡ end_after es place → IsAsking e hi
+edge_asking t f clean shown es place e c hi h walked same =
+    asking_at t f place e hi h.fetched (edge_at t f clean shown es place e h) (same ∙ edge_end t f clean shown es place e h) c walked.child_is
+
+pub edge_few : (t : Table) (f clean : Fetched) (shown : Node) (es : List Edge) (place : ℕ) (e : Edge) → IsAtEdge t f clean shown es place e → place + 1 ≤ edge_limit
+edge_few t f clean shown es place e h =
+    let long : length es ≡ length (edges_of f.node.value) = ap length (edges_are f clean shown es h.same h.shown_is h.edges) in
+    omega (arith, h.low, long, few_edges f.node.value h.fetched.own.shape)
+
+pub all_few : (t : Table) (f clean : Fetched) (shown : Node) (es : List Edge) (place : ℕ) → IsFetched t f → clean ≡ f → shown ≡ clean.node.value → es ≡ edges_of shown → place ≤ length es → place ≤ edge_limit
+all_few t f clean shown es place fetched same shown_is edges low =
+    let long : length es ≡ length (edges_of f.node.value) = ap length (edges_are f clean shown es same shown_is edges) in
+    omega (arith, low, long, few_edges f.node.value fetched.own.shape)
+
+pub due_trim : (pushes : Bool) (nodes : Nodes) (t : Table) (id : ℕ) (f clean : Fetched) (shown : Node) (es : List Edge) (place : ℕ) (e : Edge) → IsAtEdge t f clean shown es place e → f.id ≡ id → nodes id ≡ Some f.node.value → IsClean pushes t f.id f.node.value
+    → IsTrimWay nodes t e (end_after es place) → IsDue pushes nodes t (Trim clean place) id
+due_trim pushes nodes t id f clean shown es place e h same there is_clean way =
+    subst (λ (i : ℕ). IsDue pushes nodes t (Trim clean place) i) same
+    (trim f place (ap nodes same ∙ there) is_clean
+    (record { edge = e; here = edge_at t f clean shown es place e h; trim = subst (λ (o : Option (List ℕ)). IsTrimWay nodes t e o) (edge_end t f clean shown es place e h) way })
+    (ap (λ (x : Fetched). Trim x place) h.same))
+
+pub trim_to_do : (t : Table) (id : ℕ) (f clean : Fetched) (shown : Node) (es : List Edge) (place : ℕ) (e : Edge) (c : ℕ) → IsAtEdge t f clean shown es place e → IsWalked t e c → IsFoundFrom t id (Trim clean place)
+trim_to_do t id f clean shown es place e c h walked = (
+  subst (λ (x : Fetched). IsFetched t x) (sym h.same) h.fetched,
+  record {
+    edge = e;
+    child = c;
+    asks = record { here = subst (λ (x : Fetched). IsEdgeAt x.node.value place e) (sym h.same) (edge_at t f clean shown es place e h); child_is = walked.child_is };
+  },
+)
+
+not_trim_at : (nodes : Nodes) (t : Table) (f clean : Fetched) (shown : Node) (es : List Edge) (place : ℕ) (e : Edge) → IsAtEdge t f clean shown es place e → (IsTrimWay nodes t e (end_after es place) → ⊥) → IsTrimAt nodes t f.node.value place → ⊥
+not_trim_at nodes t f clean shown es place e h none b =
+    none (subst (λ (o : Option (List ℕ)). IsTrimWay nodes t e o) (sym (edge_end t f clean shown es place e h))
+    (subst (λ (x : Edge). IsTrimWay nodes t x (end_at f.node.value place)) (same_Some b.edge e (sym b.here ∙ edge_at t f clean shown es place e h)) b.trim))
+
+pub due_below : (pushes : Bool) (nodes : Nodes) (t : Table) (step : Reclaim) (id : ℕ) (f clean : Fetched) (shown : Node) (es : List Edge) (place : ℕ) (e : Edge) (c : ℕ) → IsAtEdge t f clean shown es place e → f.id ≡ id → nodes id ≡ Some f.node.value → IsClean pushes t f.id f.node.value
+    → (IsTrimWay nodes t e (end_after es place) → ⊥) → IsWalked t e c → IsDue pushes nodes t step c → IsDue pushes nodes t step id
+due_below pushes nodes t step id f clean shown es place e c h same there is_clean not_trim walked due =
+    below id place c f.node.value e there (subst (λ (i : ℕ). IsClean pushes t i f.node.value) same is_clean) (not_trim_at nodes t f clean shown es place e h not_trim) (edge_at t f clean shown es place e h) walked due
+
+pub none_at_end : (pushes : Bool) (nodes same_nodes : Nodes) (t : Table) (id : ℕ) (f clean : Fetched) (shown : Node) (es : List Edge) (place : ℕ) → clean ≡ f → shown ≡ clean.node.value → es ≡ edges_of shown → f.id ≡ id → nodes id ≡ Some f.node.value → IsClean pushes t f.id f.node.value → same_nodes ≡ nodes
     → HasNoBare same_nodes clean.node.value → length es ≤ place → HasNoneBefore pushes nodes t es place → HasNone pushes nodes t id
-none_at_end pushes nodes same_nodes t id f clean shown es place same shown_is edges same_id there is_clean no_trim e_nodes no_bare long before =
-    none_from pushes nodes t id f.node.value there (subst (λ (i : ℕ). IsClean pushes t i f.node.value) same_id is_clean) no_trim
+none_at_end pushes nodes same_nodes t id f clean shown es place same shown_is edges same_id there is_clean e_nodes no_bare long before =
+    none_from pushes nodes t id f.node.value there (subst (λ (i : ℕ). IsClean pushes t i f.node.value) same_id is_clean)
     (subst (λ (x : Fetched). HasNoBare nodes x.node.value) same (subst (λ (m : Nodes). HasNoBare m clean.node.value) e_nodes no_bare))
     (subst (λ (l : List Edge). HasNoneBefore pushes nodes t l (length l)) (edges_are f clean shown es same shown_is edges)
     (λ i c e low at_i walked. before i c e (omega arith) at_i walked))
@@ -227,9 +272,9 @@ at_below pushes t f g (Push above node place) found is first = subst (λ (s : Re
 pub due_found : (pushes : Bool) (nodes : Nodes) (t : Table) (g : Fetched) (step found : Reclaim) (id : ℕ) → IsBelow g step found → IsDue pushes nodes t step id → IsDue pushes nodes t found id
 due_found pushes nodes t g step found id is (here f there first) = here f there (at_below pushes t f g step found is first)
 due_found pushes nodes t g step found id is (trim f place there clean at_place own) = trim f place there clean at_place (subst (λ (s : Reclaim). IsBelow g s found) own is)
-due_found pushes nodes t g step found id is (bare f place there clean no_trim at_place own) = bare f place there clean no_trim at_place (subst (λ (s : Reclaim). IsBelow g s found) own is)
-due_found pushes nodes t g step found id is (below _ place c n e there clean no_trim at_place walked due) =
-    below id place c n e there clean no_trim at_place walked (due_found pushes nodes t g step found c is due)
+due_found pushes nodes t g step found id is (bare f place there clean at_place own) = bare f place there clean at_place (subst (λ (s : Reclaim). IsBelow g s found) own is)
+due_found pushes nodes t g step found id is (below _ place c n e there clean not_trim at_place walked due) =
+    below id place c n e there clean not_trim at_place walked (due_found pushes nodes t g step found c is due)
 
 pub found_below : (t : Table) (f : Fetched) (place : ℕ) (e : Edge) (c : ℕ) (step found : Reclaim) → IsFetched t f → IsEdgeAt f.node.value place e → IsWalked t e c → IsFoundFrom t c step → IsBelow f step found → IsFoundFrom t f.id found
 found_below t f place e c (Shrink child) found fetched asks walked h is = subst (λ (s : Reclaim). IsFoundFrom t f.id s) (sym is) h

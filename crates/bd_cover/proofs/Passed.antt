@@ -4,6 +4,7 @@ use Rattle.std.specs.Prelude.{◌⊎◌, ◌*◌, IsTrue, IfNone, Option, None}
 use Rattle.std.specs.HashSet.{HashSet, IsUnchanged, contains, keys}
 use Rattle.std.specs.List.{list_any}
 use Rattle.std.proofs.lemmas.Bool.{cases_Bool, cases_eq, ne_eqb, eq-eqb}
+use Rattle.bd_limits.specs.Limits.{edge_limit}
 use Rattle.bd_node.specs.Meaning.{Nodes}
 use Rattle.bd_node.specs.Tables.{Table, IsTable, IsKept, sum_below, kept_count}
 use Rattle.bd_node.proofs.Sums.{sum_exchanged}
@@ -134,24 +135,26 @@ count_same t s n same = ap (λ (ks : List ℕ). count_among t (λ x. list_any (n
 pub lower_id : (t : Table) (id here c : ℕ) → here ≡ id → t.level c < t.level here → t.level c < t.level id
 lower_id t id here c same lower = subst (λ (i : ℕ). t.level c < t.level i) same lower
 
-pub below_more : (t same_t : Table) (id c : ℕ) (old now then : ℕ → Bool) (first before after : ℕ) → same_t ≡ t → t.level c < t.level id
-    → before + node_visits * count_among t old ≤ first + node_visits * count_among t now + first_visits
-    → after + node_visits * count_among same_t now ≤ before + node_visits * count_among same_t then + first_visits * same_t.level c + node_visits
+pub below_more : (t same_t : Table) (id c place : ℕ) (old now then : ℕ → Bool) (first before tested after : ℕ) → same_t ≡ t → t.level c < t.level id → place + 1 ≤ edge_limit
+    → before + node_visits * count_among t old ≤ first + node_visits * count_among t now + 1 + place
+    → tested ≤ before + 1
+    → after + node_visits * count_among same_t now ≤ tested + node_visits * count_among same_t then + first_visits * same_t.level c + node_visits
     → after + node_visits * count_among t old ≤ first + node_visits * count_among t then + first_visits * t.level id + node_visits
-below_more t same_t id c old now then first before after same lower own more =
-    let here : after + node_visits * count_among t now ≤ before + node_visits * count_among t then + first_visits * t.level c + node_visits =
-    subst (λ (u : Table). after + node_visits * count_among u now ≤ before + node_visits * count_among u then + first_visits * u.level c + node_visits) same more in
-    omega (arith, own, here, lower)
+below_more t same_t id c place old now then first before tested after same lower bound own one more =
+    let here : after + node_visits * count_among t now ≤ tested + node_visits * count_among t then + first_visits * t.level c + node_visits =
+    subst (λ (u : Table). after + node_visits * count_among u now ≤ tested + node_visits * count_among u then + first_visits * u.level c + node_visits) same more in
+    omega (arith, own, one, here, lower, bound)
 
-pub below_once : (t same_t : Table) (found : Option Reclaim) (old now then : ℕ → Bool) (first before after : ℕ) → same_t ≡ t → found ≡ None
-    → before + node_visits * count_among t old ≤ first + node_visits * count_among t now + first_visits
-    → IfNone found (after + node_visits * count_among same_t now ≤ before + node_visits * count_among same_t then)
-    → after + node_visits * count_among t old ≤ first + node_visits * count_among t then + first_visits
-below_once t same_t found old now then first before after same none own once =
-    let here : after + node_visits * count_among t now ≤ before + node_visits * count_among t then =
-    subst (λ (u : Table). after + node_visits * count_among u now ≤ before + node_visits * count_among u then) same
-    (subst (λ (o : Option Reclaim). IfNone o (after + node_visits * count_among same_t now ≤ before + node_visits * count_among same_t then)) none once) in
-    omega (arith, own, here)
+pub below_once : (t same_t : Table) (place : ℕ) (found : Option Reclaim) (old now then : ℕ → Bool) (first before tested after : ℕ) → same_t ≡ t → found ≡ None
+    → before + node_visits * count_among t old ≤ first + node_visits * count_among t now + 1 + place
+    → tested ≤ before + 1
+    → IfNone found (after + node_visits * count_among same_t now ≤ tested + node_visits * count_among same_t then)
+    → after + node_visits * count_among t old ≤ first + node_visits * count_among t then + 1 + (place + 1)
+below_once t same_t place found old now then first before tested after same none own one once =
+    let here : after + node_visits * count_among t now ≤ tested + node_visits * count_among t then =
+    subst (λ (u : Table). after + node_visits * count_among u now ≤ tested + node_visits * count_among u then) same
+    (subst (λ (o : Option Reclaim). IfNone o (after + node_visits * count_among same_t now ≤ tested + node_visits * count_among same_t then)) none once) in
+    omega (arith, own, one, here)
 
 pub none_once : (found : Option Reclaim) (P : Type 0) → found ≡ None → IfNone found P → P
 none_once found P none once = subst (λ (o : Option Reclaim). IfNone o P) none once

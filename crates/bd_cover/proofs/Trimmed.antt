@@ -1,10 +1,9 @@
 -- What an edge asks of a child to which the walk goes, and how it is tested.
-use Rattle.std.proofs.Common.{◌≡◌, ℕ, suc, ◌+◌, ◌-◌, ◌*◌, ◌<◌, ◌≤◌, Bool, true, false, List, [], ◌∷◌, length, take, drop, map, get_or, refl, sym, ap, subst, ◌∙◌, Option, Some, arith, inl, inr, length-drop, IsTrue, ◌↔◌, Result, Ok, Err}
+use Rattle.std.proofs.Common.{◌≡◌, ℕ, suc, ◌+◌, ◌-◌, ◌*◌, ◌<◌, ◌≤◌, Bool, true, false, List, [], ◌∷◌, length, take, drop, map, get_or, refl, sym, ap, subst, ◌∙◌, Option, Some, arith, length-drop, IsTrue, ◌↔◌, Result, Ok, Err}
 use Rattle.std.specs.Prelude.{slice_get, nat_lt, IfOk}
 use Rattle.std.specs.List.{sum_by}
-use Rattle.std.proofs.lemmas.Bool.{cases_eq, lt-ltb, ltb-true}
+use Rattle.std.proofs.lemmas.Bool.{lt-ltb, ltb-true}
 use Rattle.std.proofs.lemmas.List.Sums.{sum_by_more}
-use Rattle.std.proofs.lemmas.Option.{same_Some}
 use Rattle.bd_keys.specs.Keys.{IsKey}
 use Rattle.bd_message.specs.declared.message.Message.{Message}
 use Rattle.bd_message.proofs.Finds.{not_both}
@@ -17,7 +16,7 @@ use Rattle.bd_node.specs.Meaning.{Nodes}
 use Rattle.bd_node.specs.Nodes.{edge_names}
 use Rattle.bd_node.specs.Parts.{edges_of, buffer_of, end_at, IsEdgeAt}
 use Rattle.bd_node.specs.Tables.{Table}
-use Rattle.bd_node.proofs.Parts.{edge_within, edge_here}
+use Rattle.bd_node.proofs.Parts.{edge_here}
 use Rattle.bd_inner.proofs.Fitting.{own_shape}
 use Rattle.bd_node.specs.Shape.{IsShape}
 use Rattle.bd_node.proofs.Compacting.{loose_shape, compacted_shape, few_wait}
@@ -27,7 +26,7 @@ use Rattle.bd_copy.specs.Narrowing.{IsSpan, IsAsking, asked_from, asked_end, nar
 use Rattle.bd_copy.proofs.Copied.{is_asking}
 use Rattle.bd_copy.proofs.Narrowed.{narrow_loose}
 use Rattle.bd_cover.specs.Reclaimed.{left_at}
-use Rattle.bd_cover.specs.Trimming.{IsTrimmed, IsTrimWay, IsTrimAt, HasNoTrim}
+use Rattle.bd_cover.specs.Trimming.{IsTrimmed, IsTrimWay}
 
 -- ---- there is one such node
 
@@ -97,34 +96,15 @@ left_more n es place e count more left now low read counted seen is sum then =
     let own : left_for (buffer_of n) (get_or es place e) ≡ left_for (buffer_of n) e = ap (left_for (buffer_of n)) (sym read) in
     omega (arith, own, counted, seen, is, sum, then, length-drop e.seen (buffer_of n), sum_by_more (left_for (buffer_of n)) es place e low)
 
--- ---- the places before one
-
--- no edge before a place has such a child
-abbrev pub NoTrimBefore : Nodes → Table → Node → ℕ → Type 0
-NoTrimBefore nodes t n place = (i : ℕ) → i < place → IsTrimAt nodes t n i → ⊥
-
-pub no_trim_more : (nodes : Nodes) (t : Table) (n : Node) (place : ℕ) (e : Edge) → NoTrimBefore nodes t n place → IsEdgeAt n place e → (IsTrimWay nodes t e (end_at n place) → ⊥) → NoTrimBefore nodes t n (place + 1)
-no_trim_more nodes t n place e before here none i low b =
-    elim (cases_eq i place) [
-      | inl same ↦
-          let own : IsTrimAt nodes t n place = subst (λ (j : ℕ). IsTrimAt nodes t n j) same b in
-          none (subst (λ (x : Edge). IsTrimWay nodes t x (end_at n place)) (same_Some own.edge e (sym own.here ∙ here)) own.trim)
-      | inr other ↦ before i (omega arith) b
-    ]
-
-pub no_trim_in : (nodes : Nodes) (t : Table) (n : Node) (place : ℕ) → NoTrimBefore nodes t n place → length (edges_of n) ≤ place → HasNoTrim nodes t n
-no_trim_in nodes t n place before long i b = (let low : i < length (edges_of n) = edge_within n i b.edge b.here in before i (omega arith) b)
+-- ---- an edge as it is tested
 
 pub not_trim : (nodes same_nodes : Nodes) (t same_t : Table) (e : Edge) (hi end : Option (List ℕ)) (r : Bool) → same_nodes ≡ nodes → same_t ≡ t → hi ≡ end → IsTrue r ↔ IsTrimWay same_nodes same_t e hi → r ≡ false → IsTrimWay nodes t e end → ⊥
 not_trim nodes same_nodes t same_t e hi end r e_nodes e_t same tested off b =
     not_both (tested.1 (subst (λ (m : Nodes). IsTrimWay m same_t e hi) (sym e_nodes) (subst (λ (u : Table). IsTrimWay nodes u e hi) (sym e_t) (subst (λ (o : Option (List ℕ)). IsTrimWay nodes t e o) (sym same) b)))) off
 
-pub trim_here : (nodes same_nodes : Nodes) (t same_t : Table) (n : Node) (place : ℕ) (e : Edge) (hi : Option (List ℕ)) (r : Bool) → same_nodes ≡ nodes → same_t ≡ t → hi ≡ end_at n place → IsEdgeAt n place e → IsTrue r ↔ IsTrimWay same_nodes same_t e hi → r ≡ true → IsTrimAt nodes t n place
-trim_here nodes same_nodes t same_t n place e hi r e_nodes e_t same here tested on = record {
-  edge = e;
-  here = here;
-  trim = subst (λ (o : Option (List ℕ)). IsTrimWay nodes t e o) same (subst (λ (u : Table). IsTrimWay nodes u e hi) e_t (subst (λ (m : Nodes). IsTrimWay m same_t e hi) e_nodes (tested.0 on)));
-}
+pub is_trim : (nodes same_nodes : Nodes) (t same_t : Table) (e : Edge) (hi end : Option (List ℕ)) (r : Bool) → same_nodes ≡ nodes → same_t ≡ t → hi ≡ end → IsTrue r ↔ IsTrimWay same_nodes same_t e hi → r ≡ true → IsTrimWay nodes t e end
+is_trim nodes same_nodes t same_t e hi end r e_nodes e_t same tested on =
+    subst (λ (o : Option (List ℕ)). IsTrimWay nodes t e o) same (subst (λ (u : Table). IsTrimWay nodes u e hi) e_t (subst (λ (m : Nodes). IsTrimWay m same_t e hi) e_nodes (tested.0 on)))
 
 -- ---- what the edge asks of a node
 

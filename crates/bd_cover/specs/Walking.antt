@@ -53,8 +53,8 @@ walk_size nodes t zero id = 0
 walk_size nodes t (suc depth) id =
     suc (sum_by (λ e. at_walked t (walk_size nodes t depth) e.child) (edges_in (nodes id)))
 
--- how many visits the walk has at a node before it goes below it at most: its own, and one of each
--- edge's child
+-- how many visits the walk has at a node at most before it looks at what its edges ask, those below
+-- it apart: its own, and one of each edge's child
 abbrev pub first_visits : ℕ
 first_visits = edge_limit + 1
 
@@ -126,10 +126,11 @@ count_among t among =
     sum_below t.next (λ id. if nat_le 1 (t.count id) && among id then 1 else 0)
 
 -- the change is to be made at a node to which the walk leads from this one, where nothing is to be
--- changed at those above it for what they have themselves, and no child of theirs has more than its
--- edge asks for: the first one for what the node has itself; or, of a node that is clean itself, an
--- edge's child is to have only what the edge asks for; or, where there is no such child either, an
--- edge loses a child in which nothing stands
+-- changed at those above it for what they have themselves, and no child on the way has more than the
+-- edge asks for that leads to it: the first one for what the node has itself; or, of a node that is
+-- clean itself, an edge's child is to have only what the edge asks for, or an edge loses a child in
+-- which nothing stands. Whether the children of other edges have more than these ask for isn't told:
+-- a walk that goes on where an earlier one was doesn't test the nodes that were passed
 pub data IsDue (pushes : Bool) (nodes : Nodes) (t : Table) (step : Reclaim) : ℕ → Type 0 where
   here : (f : Fetched) → nodes f.id ≡ Some f.node.value → IsFirstAt pushes t f step
       → IsDue pushes nodes t step f.id
@@ -137,10 +138,10 @@ pub data IsDue (pushes : Bool) (nodes : Nodes) (t : Table) (step : Reclaim) : �
       → IsClean pushes t f.id f.node.value → IsTrimAt nodes t f.node.value place
       → step ≡ Trim f place → IsDue pushes nodes t step f.id
   bare : (f : Fetched) (place : ℕ) → nodes f.id ≡ Some f.node.value
-      → IsClean pushes t f.id f.node.value → HasNoTrim nodes t f.node.value
-      → IsBareAt nodes f.node.value place → step ≡ Bare f place → IsDue pushes nodes t step f.id
+      → IsClean pushes t f.id f.node.value → IsBareAt nodes f.node.value place
+      → step ≡ Bare f place → IsDue pushes nodes t step f.id
   below : (id place c : ℕ) (n : Node) (e : Edge) → nodes id ≡ Some n → IsClean pushes t id n
-      → HasNoTrim nodes t n → IsEdgeAt n place e → IsWalked t e c
+      → ¬ IsTrimAt nodes t n place → IsEdgeAt n place e → IsWalked t e c
       → IsDue pushes nodes t step c → IsDue pushes nodes t step id
 
 -- ---- changes that may be made

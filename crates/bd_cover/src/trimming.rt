@@ -1,9 +1,8 @@
 //! Children that have more than their only edge asks them for.
 
-ghost use Rattle.std.specs.Prelude.{◌≡◌, ◌↔◌, ℕ, ◌+◌, ◌-◌, ◌*◌, ◌<◌, ◌≤◌, length, Some, IsTrue, IfOk, IfSome, MatchOption, OnOk, OnErr};
+ghost use Rattle.std.specs.Prelude.{◌≡◌, ◌↔◌, ℕ, ◌+◌, ◌-◌, ◌*◌, ◌<◌, ◌≤◌, length, IsTrue, IfOk, OnOk, OnErr};
 ghost use Rattle.std.specs.Option.{option_copied};
 ghost use Rattle.bd_keys.specs.Keys.{IsKey};
-ghost use Rattle.bd_limits.specs.Limits.{edge_limit};
 ghost use Rattle.bd_message.specs.KeyMaps.{HasMapCause, NeverWorn};
 ghost use Rattle.bd_node.specs.Frames.{OfSound, OnlyReads, Stays};
 ghost use Rattle.bd_node.specs.declared.node.Edge.{Edge};
@@ -11,72 +10,40 @@ ghost use Rattle.bd_node.specs.declared.node.Node.{Node};
 ghost use Rattle.bd_node.specs.Nodes.{edge_names};
 ghost use Rattle.bd_node.specs.Parts.{IsEdgeAt};
 ghost use Rattle.bd_node.specs.Shape.{IsShape};
-ghost use Rattle.bd_node.specs.Tables.{IsKept, IsTable};
+ghost use Rattle.bd_node.specs.Tables.{IsTable};
 ghost use Rattle.bd_path.specs.Fetching.{IsFetched, IsOwn};
 ghost use Rattle.bd_path.specs.Flushed.{IsNoHigher};
 ghost use Rattle.bd_path.specs.Made.{AreKnown, WearsOut};
 ghost use Rattle.bd_copy.specs.Narrowing.{IsAsking, IsNarrowed, asked_from, asked_end};
 ghost use Rattle.bd_cover.specs.Bare.{HasChildAt};
-ghost use Rattle.bd_cover.specs.Trimming.{IsTrimmed, IsTrimWay, IsTrimAt, HasNoTrim};
+ghost use Rattle.bd_cover.specs.Trimming.{IsWalked, IsTrimmed, IsTrimWay, IsTrimAt};
 ghost use Rattle.bd_cover.specs.Reclaimed.{IsReclaimed, IsTrimmedAt, IsTrimStep, left_at, left_over};
 
-use crate::walking::walked;
 use bd_copy::{asked_end, asked_from, narrow};
 use bd_message::MapFault;
 use bd_node::{Edge, Node, NodeStore, Step, end_of};
 use bd_path::{Fetched, change_step, fetch};
 use std::alloc::{AllocError, Global};
 
-/// The place of the first edge of a fetched node that asks, with nothing in front of a key, an inner
-/// node that nothing else names, where less is left to change at what the edge asks it for than at
-/// that node. Each such child is fetched at most once, up to that one: at most 16 visits.
-pub fn trim_place<S: NodeStore>(
+/// Whether an edge, whose keys end at `hi`, asks its child with nothing in front of a key, and less is
+/// left to change at what it asks of the child than at the child. The walk goes from the edge to the
+/// child, which is fetched at most once: at most one visit.
+pub fn is_trimmed<S: NodeStore>(
     alloc: Global,
     store: &mut S,
-    here: &Fetched,
-) -> Result<Option<usize>, MapFault>
-    requires { IsFetched (S.table store.old) here.now }
-    ensures trim { S.is_known store.old → IfOk result (λ found. MatchOption found
-        (HasNoTrim (S.nodes store.old) (S.table store.old) here.now.node.value)
-        (IsTrimAt (S.nodes store.old) (S.table store.old) here.now.node.value)) }
-    ensures child { IfOk result (λ found. IfSome found (HasChildAt here.now.node.value)) }
-    ensures left { OnlyReads S.NodeStore store.old store.new }
-    ensures cause { HasMapCause (S.fault_count store.old) (S.fault_count store.new)
-        (S.last_failed store.new) (S.bad store.new) NeverWorn result }
-    ensures few_visits { S.visit_count store.new ≤ S.visit_count store.old + edge_limit }
-{
-    let edges = here.node.edges();
-    for (place, edge) in edges.iter().enumerate() {
-        if is_trimmed(alloc, store, edge, end_of(edges, place))? {
-            return Ok(Some(place));
-        }
-    }
-    Ok(None)
-}
-
-// Whether an edge, whose keys end at `hi`, asks a child to which the walk goes with nothing in front
-// of a key, and less is left to change at what it asks of the child than at the child.
-fn is_trimmed<S: NodeStore>(
-    alloc: Global,
-    store: &mut S,
+    child: u64,
     edge: &Edge,
     hi: Option<&[u8]>,
 ) -> Result<bool, MapFault>
-    requires kept { (child : ℕ) → edge.now.child ≡ Some child → IsKept (S.table store.old) child }
-    requires asking { (child : ℕ) → edge.now.child ≡ Some child
-        → IsAsking edge.now (option_copied hi) }
+    requires walked { IsWalked (S.table store.old) edge.now child }
+    requires asking { IsAsking edge.now (option_copied hi) }
     ensures trim { S.is_known store.old → IfOk result (λ is_so. IsTrue is_so
         ↔ IsTrimWay (S.nodes store.old) (S.table store.old) edge.now (option_copied hi.entry)) }
-    ensures child { IfOk result (λ is_so. IsTrue is_so
-        → (child : ℕ) × (edge.now.child ≡ Some child)) }
     ensures left { OnlyReads S.NodeStore store.old store.new }
     ensures cause { HasMapCause (S.fault_count store.old) (S.fault_count store.new)
         (S.last_failed store.new) (S.bad store.new) NeverWorn result }
     ensures few_visits { S.visit_count store.new ≤ S.visit_count store.old + 1 }
 {
-    let Some(child) = walked(store, edge) else {
-        return Ok(false);
-    };
     if !edge.source.is_empty() {
         return Ok(false);
     }

@@ -1,6 +1,6 @@
 //! The walk that looks for a change to make.
 
-ghost use Rattle.std.specs.Prelude.{◌≡◌, ℕ, ◌<◌, ◌≤◌, ◌+◌, ◌*◌, ⊤, IfOk, IfNone, IfSome, MatchOption, Some, nat_eq};
+ghost use Rattle.std.specs.Prelude.{◌≡◌, false, ℕ, ◌<◌, ◌≤◌, ◌+◌, ◌*◌, ⊤, IfOk, IfNone, IfSome, MatchOption, Some, nat_eq};
 ghost use Rattle.std.specs.HashSet.{contains};
 ghost use Rattle.bd_message.specs.KeyMaps.{HasMapCause, NeverWorn};
 ghost use Rattle.bd_node.specs.Frames.{OfSound, OnlyReads};
@@ -14,9 +14,9 @@ ghost use Rattle.bd_cover.specs.Walking.{IsThinWay, IsThin, IsLook, IsEdgeLook, 
 use crate::Cover;
 use crate::baring::bare_place;
 use crate::covering::{first_covered, first_cut};
-use crate::trimming::trim_place;
+use crate::trimming::is_trimmed;
 use bd_message::MapFault;
-use bd_node::{Edge, Items, Node, NodeStore};
+use bd_node::{Edge, Items, Node, NodeStore, end_of};
 use bd_path::{Fetched, Way, fetch};
 use std::alloc::{AllocError, Global};
 use std::collections::HashSet;
@@ -67,12 +67,14 @@ pub enum Reclaim {
 
 /// A change that is still to be made, and none exactly where there is none. The walk looks at the
 /// root, and at each inner node that an edge of such a node asks and that nothing else names: at what
-/// a node has itself first, then for edges whose child, where the walk goes to it, has more than they
-/// ask it for, then below its edges, in their order, and then for edges that ask a child in which
-/// nothing stands. Pushes are passed over unless `pushes` asks for them. Nothing is changed.
+/// a node has itself first, then at each edge, in their order, whether its child, where the walk goes
+/// to it, has more than the edge asks for, and then below that edge, and last for edges that ask a
+/// child in which nothing stands. Pushes are passed over unless `pushes` asks for them. Nothing is
+/// changed.
 /// The nodes in `passed` are passed over, as at and below them there was nothing to change: those that
-/// this walk comes to so are put there, so that the next walk goes on where this one was. Where
-/// nothing else is left, `passed` is emptied and the walk begins anew; so `passed` says only where it
+/// this walk comes to so are put there, so that the next walk goes on where this one was. Such a walk
+/// doesn't test either whether one of them has more than its edge asks for. Where nothing else is
+/// left, `passed` is emptied and the walk begins anew, with each test; so `passed` says only where it
 /// is worth looking. At most 1,041 visits are had at each node of a walk, its own, one of each of at
 /// most 16 children and 64 for each edge, and the walk comes to each node once, also where the counts
 /// are wrong and it would come to it again.
@@ -104,36 +106,38 @@ pub fn reclaim_next<S: NodeStore>(
 {
     let root = store.root();
     if passed.is_empty() {
-        return next_from(alloc, store, passed, root, pushes);
+        return next_from(alloc, store, passed, root, pushes, false);
     }
-    if let Some(step) = next_from(alloc, store, passed, root, pushes)? {
+    if let Some(step) = next_from(alloc, store, passed, root, pushes, true)? {
         return Ok(Some(step));
     }
     passed.clear();
-    next_from(alloc, store, passed, root, pushes)
+    next_from(alloc, store, passed, root, pushes, false)
 }
 
 // A change to make at a node or below it, unless the node was passed. A push has the nodes above its
 // own, up to this one. Nodes are put to those that were passed once nothing was found at and below
-// them.
+// them. A walk that goes on where an earlier one was doesn't test children that were passed; so only
+// one that doesn't go on tells that nothing is to be changed.
 fn next_from<S: NodeStore>(
     alloc: Global,
     store: &mut S,
     passed: &mut HashSet<u64>,
     id: u64,
     pushes: bool,
+    goes_on: bool,
 ) -> Result<Option<Reclaim>, MapFault>
     requires table { IsTable (S.table store.old) }
     requires kept { IsKept (S.table store.old) id }
     ensures due { OfSound S.NodeStore store.old
         (IfOk result (λ found. IfSome found (λ step.
         IsDue pushes (S.nodes store.old) (S.table store.old) step id))) }
-    ensures none { OfSound S.NodeStore store.old
-        (AreClean pushes (S.nodes store.old) (S.table store.old) (contains nat_eq passed.old)
+    ensures none { OfSound S.NodeStore store.old (goes_on ≡ false
+        → AreClean pushes (S.nodes store.old) (S.table store.old) (contains nat_eq passed.old)
         → IfOk result (λ found. MatchOption found
         (HasNone pushes (S.nodes store.old) (S.table store.old) id) (λ step. ⊤))) }
-    ensures clean { OfSound S.NodeStore store.old
-        (AreClean pushes (S.nodes store.old) (S.table store.old) (contains nat_eq passed.old)
+    ensures clean { OfSound S.NodeStore store.old (goes_on ≡ false
+        → AreClean pushes (S.nodes store.old) (S.table store.old) (contains nat_eq passed.old)
         → AreClean pushes (S.nodes store.old) (S.table store.old) (contains nat_eq passed.new)) }
     ensures found { IfOk result (λ found. IfSome found (IsFoundFrom (S.table store.old) id)) }
     ensures there { S.is_known store.old
@@ -164,15 +168,15 @@ fn next_from<S: NodeStore>(
         Look::Change(step) => return Ok(Some(step)),
         Look::Clean(here) => here,
     };
-    if let Some(place) = trim_place(alloc, store, &here)? {
-        return Ok(Some(Reclaim::Trim { node: here, place }));
-    }
     let edges = here.node.edges();
-    for edge in edges {
-        let Some(child) = walked(store, edge) else {
+    for (place, edge) in edges.iter().enumerate() {
+        let Some(child) = child_ahead(store, passed, edge, goes_on) else {
             continue;
         };
-        if let Some(step) = next_from(alloc, store, passed, child, pushes)? {
+        if is_trimmed(alloc, store, child, edge, end_of(edges, place))? {
+            return Ok(Some(Reclaim::Trim { node: here, place }));
+        }
+        if let Some(step) = next_from(alloc, store, passed, child, pushes, goes_on)? {
             return Ok(Some(found_below(here, step)?));
         }
     }
@@ -284,8 +288,29 @@ fn look_at_edges(alloc: Global, here: Fetched, pushes: bool) -> Look
     }
 }
 
+// The child of an edge, if the walk comes to it: one that goes on where an earlier one was passes
+// over the children that were passed.
+fn child_ahead<S: NodeStore>(
+    store: &S,
+    passed: &HashSet<u64>,
+    edge: &Edge,
+    goes_on: bool,
+) -> Option<u64>
+    requires { (child : ℕ) → edge.now.child ≡ Some child → IsKept (S.table store.now) child }
+    ensures { MatchOption result
+        (goes_on ≡ false → (child : ℕ) → ¬ IsWalked (S.table store.now) edge.now child)
+        (IsWalked (S.table store.now) edge.now) }
+{
+    let child = walked(store, edge)?;
+    if goes_on && passed.contains(&child) {
+        None
+    } else {
+        Some(child)
+    }
+}
+
 // The child of an edge, if the walk goes on there.
-pub fn walked<S: NodeStore>(store: &S, edge: &Edge) -> Option<u64>
+fn walked<S: NodeStore>(store: &S, edge: &Edge) -> Option<u64>
     requires { (child : ℕ) → edge.now.child ≡ Some child → IsKept (S.table store.now) child }
     ensures { MatchOption result ((child : ℕ) → ¬ IsWalked (S.table store.now) edge.now child)
         (IsWalked (S.table store.now) edge.now) }

@@ -47,8 +47,8 @@ pushes_asked pushes nodes t (Bare node place) id due some = absurd (omega (arith
 pushes_asked pushes nodes t (Trim node place) id due some = absurd (omega (arith, some))
 pushes_asked pushes nodes t (Push above node place) _ (here f there at) some = at.4
 pushes_asked pushes nodes t (Push above node place) _ (trim f at there clean is_trim is) some = cc
-pushes_asked pushes nodes t (Push above node place) _ (bare f at there clean no_trim is_bare is) some = cc
-pushes_asked pushes nodes t (Push above node place) _ (below i p c n e there clean no_trim edge walked due) some = pushes_asked pushes nodes t (Push above node place) c due some
+pushes_asked pushes nodes t (Push above node place) _ (bare f at there clean is_bare is) some = cc
+pushes_asked pushes nodes t (Push above node place) _ (below i p c n e there clean not_trim edge walked due) some = pushes_asked pushes nodes t (Push above node place) c due some
 
 next_pushes : (before : ℕ) (step : Reclaim) (v : View) → IsDueChange before step v → 1 ≤ pushes_in step → before < push_limit
 next_pushes before step v next some =

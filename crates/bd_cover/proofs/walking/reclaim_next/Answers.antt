@@ -9,7 +9,7 @@ use Rattle.bd_cover.proofs.walking.reclaim_next.Goals as goal
 
 pub returns-then-is_empty-clause-due : goal.returns-then-is_empty-clause-due
 returns-then-is_empty-clause-due g c = λ known sound.
-    walk_due c.args.pushes (g.S.NodeStore.nodes c.args.store.now) (g.S.NodeStore.nodes c.args.store.now) (g.S.NodeStore.table c.args.store.now) (g.S.NodeStore.table c.args.store.now) c.root-root.result c.next_from.result refl refl c.root-root.ensures.value (c.next_from.ensures.due known sound) (c.next_from.ensures.none known sound (none_passed c.args.pushes (g.S.NodeStore.nodes c.args.store.now) (g.S.NodeStore.table c.args.store.now) c.args.passed.now (c.is_empty.ensures.0 c.if-is_empty.true)))
+    walk_due c.args.pushes (g.S.NodeStore.nodes c.args.store.now) (g.S.NodeStore.nodes c.args.store.now) (g.S.NodeStore.table c.args.store.now) (g.S.NodeStore.table c.args.store.now) c.root-root.result c.next_from.result refl refl c.root-root.ensures.value (c.next_from.ensures.due known sound) (c.next_from.ensures.none known sound refl (none_passed c.args.pushes (g.S.NodeStore.nodes c.args.store.now) (g.S.NodeStore.table c.args.store.now) c.args.passed.now (c.is_empty.ensures.0 c.if-is_empty.true)))
 
 pub returns-then-is_empty-clause-to_do : goal.returns-then-is_empty-clause-to_do
 returns-then-is_empty-clause-to_do g c = walk_to_do (g.S.NodeStore.table c.args.store.now) (g.S.NodeStore.table c.args.store.now) c.root-root.result c.next_from.result refl c.root-root.ensures.value c.next_from.ensures.found
@@ -61,7 +61,7 @@ next_from-requires-2-clause-kept g c = root_kept (g.S.NodeStore.table c.args.sto
 
 pub returns-clause-due : goal.returns-clause-due
 returns-clause-due g c = λ known sound.
-    walk_due c.args.pushes (g.S.NodeStore.nodes c.args.store.now) (g.S.NodeStore.nodes c.next_from-2.new.store) (g.S.NodeStore.table c.args.store.now) (g.S.NodeStore.table c.next_from-2.new.store) c.root-root.result c.next_from-3.result (c.in_ok-step.ensures.left.kept known) c.in_ok-step.ensures.left.table c.root-root.ensures.value (c.next_from-3.ensures.due (c.in_ok-step.ensures.left.known known) (still_sound (g.S.NodeStore.nodes c.args.store.now) (g.S.NodeStore.nodes c.next_from-2.new.store) (g.S.NodeStore.table c.args.store.now) (g.S.NodeStore.table c.next_from-2.new.store) (c.in_ok-step.ensures.left.kept known) c.in_ok-step.ensures.left.table sound)) (c.next_from-3.ensures.none (c.in_ok-step.ensures.left.known known) (still_sound (g.S.NodeStore.nodes c.args.store.now) (g.S.NodeStore.nodes c.next_from-2.new.store) (g.S.NodeStore.table c.args.store.now) (g.S.NodeStore.table c.next_from-2.new.store) (c.in_ok-step.ensures.left.kept known) c.in_ok-step.ensures.left.table sound) (none_passed c.args.pushes (g.S.NodeStore.nodes c.next_from-2.new.store) (g.S.NodeStore.table c.next_from-2.new.store) c.clear.new.self c.clear.ensures.len))
+    walk_due c.args.pushes (g.S.NodeStore.nodes c.args.store.now) (g.S.NodeStore.nodes c.next_from-2.new.store) (g.S.NodeStore.table c.args.store.now) (g.S.NodeStore.table c.next_from-2.new.store) c.root-root.result c.next_from-3.result (c.in_ok-step.ensures.left.kept known) c.in_ok-step.ensures.left.table c.root-root.ensures.value (c.next_from-3.ensures.due (c.in_ok-step.ensures.left.known known) (still_sound (g.S.NodeStore.nodes c.args.store.now) (g.S.NodeStore.nodes c.next_from-2.new.store) (g.S.NodeStore.table c.args.store.now) (g.S.NodeStore.table c.next_from-2.new.store) (c.in_ok-step.ensures.left.kept known) c.in_ok-step.ensures.left.table sound)) (c.next_from-3.ensures.none (c.in_ok-step.ensures.left.known known) (still_sound (g.S.NodeStore.nodes c.args.store.now) (g.S.NodeStore.nodes c.next_from-2.new.store) (g.S.NodeStore.table c.args.store.now) (g.S.NodeStore.table c.next_from-2.new.store) (c.in_ok-step.ensures.left.kept known) c.in_ok-step.ensures.left.table sound) refl (none_passed c.args.pushes (g.S.NodeStore.nodes c.next_from-2.new.store) (g.S.NodeStore.table c.next_from-2.new.store) c.clear.new.self c.clear.ensures.len))
 
 pub returns-clause-to_do : goal.returns-clause-to_do
 returns-clause-to_do g c = walk_to_do (g.S.NodeStore.table c.args.store.now) (g.S.NodeStore.table c.next_from-2.new.store) c.root-root.result c.next_from-3.result c.in_ok-step.ensures.left.table c.root-root.ensures.value c.next_from-3.ensures.found
