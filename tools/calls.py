@@ -54,7 +54,7 @@ def shell(session, given):
 
     The status is 1 where a line was refused, but for the lines of a person at a terminal without -e.
     """
-    return prompt.Shell(session, given, [verb for verb in VERBS if verb not in ("new", "halves", "shell")], read_verb).run()
+    return prompt.Shell(session, given, [verb for verb in VERBS if verb not in ("new", "check", "halves", "shell")], read_verb).run()
 
 
 # Options with a name of their own that aren't told by a word, by what they are called in the code.
@@ -80,6 +80,7 @@ VERBS = {
     "shares": (looks.shares, "-h --read-only", [("path", "?", path)]),
     "diff": (looks.diff, "-a -q --brief --read-only", [("source", None, path), ("to", None, path)]),
     "reclaim": (verbs.reclaim, "", []),
+    "check": (verbs.check, "", []),
     "halves": (verbs.halves_of, "", []),
     "shell": (shell, "-e --json", []),
 }

@@ -23,6 +23,12 @@ REFUSALS = {
     4: "is no directory", 5: "is a directory", 6: "can't be put into itself", 7: "can be neither removed nor moved",
     8: "would pass 2^30 bytes", 9: "is no path of at most 512 bytes", 10: "is no line"}
 UNITS = "KMGT"
+# The program's status where a check finds no tree, and what is wrong then, by the word that tells it.
+NO_TREE = 10
+WRONG = {
+    "block": "no tree: block {} isn't what it has to be",
+    "node": "no tree: the node {} isn't named as often as the table says, or the keys below it are none of a tree's",
+    "limit": "more than {} keys: no more are looked at"}
 # The attribute by which a mounted image is told to clone.
 CLONE = b"user.betr.clone"
 
@@ -413,6 +419,27 @@ def called(session, *words):
     done = subprocess.run([chosen(session.program), verb, named(session.image), *rest], stdin=subprocess.DEVNULL,
                           stdout=subprocess.PIPE, check=False)
     return done.returncode, done.stdout.decode(errors="backslashreplace").strip("\n").split("\n")[-1]
+
+
+def check(session, given):
+    """usage: tools/btr check IMAGE
+
+    Says whether an image has a tree: reads each node of its last checkpoint, and looks at how often each is named, at
+    all keys, and at each command of the log. The image stays as it is. The status is 0 where it has one, 10 where it
+    has none or more keys than are looked at, and else the program's.
+    """
+    with ticking("check"):
+        status, said = called(session, "check")
+    words = said.split(" ")
+    if status == 0 and words[:2] == ["ok", "check"]:
+        nodes, keys, count = (int(word) for word in words[3::2])
+        out(f"a tree of {counted(nodes, 'node', 'nodes')} and {counted(keys, 'key', 'keys')}, "
+            f"after {counted(count, 'command', 'commands')}")
+        return 0
+    if status == NO_TREE and words[:2] == ["no", "check"]:
+        out(WRONG[words[2]].format(int(words[3])))
+        return NO_TREE
+    raise fault_of(session.image, status, said)
 
 
 def new(session, given):

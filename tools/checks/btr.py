@@ -220,7 +220,34 @@ def full(program, room, report):
     report("reclaim on a full image", ended.status == 0 and not ended.out.startswith("0 "), str(ended))
 
 
+def set_byte(image, block, place, byte):
+    with open(image, "r+b") as file:
+        file.seek(block * 4_096 + place)
+        file.write(bytes([byte]))
+
+
+def checked(bench):
+    """`check`, of images with a tree and with none, which it leaves as they are."""
+    bench.prints("a tree of 1 node and 1 key, after 0 commands\n", "check")
+    bench.lines(*TREE)
+    bench.prints(f"a tree of 1 node and 1 key, after {len(TREE)} commands\n", "check")
+    bench.lines("checkpoint")
+    bench.prints(f"a tree of 1 node and 11 keys, after {len(TREE)} commands\n", "check")
+    for block, place, byte, wrong in (
+            (147, 4_095, 1, "block 132 isn't what it has to be"),
+            (148, 47, 2, "the node 1 isn't named as often as the table says, or the keys below it are none of a tree's"),
+            (132, 41, 0x45, "the node 1 isn't named as often as the table says, or the keys below it are none of a tree's")):
+        image = bench.room / f"wrong{block}"
+        new_image(bench.program, image, 24)
+        set_byte(image, block, place, byte)
+        before = image.read_bytes()
+        ended = bench.call("check", image=image)
+        right = (ended.status, ended.out, ended.err) == (10, f"no tree: {wrong}\n", "")
+        bench.report(f"check: {wrong}", right and image.read_bytes() == before, str(ended))
+    bench.refuses(3, "no such file", "check", image=bench.room / "missing")
+
+
 def check(program, room, report):
-    for part in (listings, many, changed, times, in_and_out, images, causes):
+    for part in (listings, many, changed, times, in_and_out, images, checked, causes):
         part(Bench(program, room / part.__name__, report))
     full(program, room, report)

@@ -59,6 +59,8 @@ def looked_at(mirror, report):
     for verb in ("du", "shares"):
         ended = mirror.call(verb, mirror.both)
         report(verb, ended.status == 0, str(ended))
+    ended = mirror.call("check", mirror.both)
+    report("check", ended.status == 0 and ended.out.startswith("a tree of "), str(ended))
 
 
 def one_alone(mirror, report):

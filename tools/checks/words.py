@@ -12,7 +12,7 @@ from calling import TOOLS, call, cause, new_image, tool
 # Words of each tool that are wrong, beside an option that no tool has.
 WRONG = {
     "bench": [["a", "b"], ["--folder"], ["--mount", "--large"]],
-    "btr": [[], ["nothing"], ["ls"], ["new", "x"], ["new", "x", "many"], ["new", "x", "23"], ["new", "x", "65537"]],
+    "btr": [[], ["nothing"], ["ls"], ["check"], ["check", "x", "y"], ["new", "x"], ["new", "x", "many"], ["new", "x", "23"], ["new", "x", "65537"]],
     "check": [["nothing"], ["calling"], ["--folder"]],
     "compare": [["x"], ["1", "0"], ["-1"], ["1", "2", "3"]],
     "lines": [[], ["1"], ["x", "3"], ["1", "-3"], ["4294967296", "1"], ["1", "2", "3"]],

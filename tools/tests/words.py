@@ -36,6 +36,9 @@ FILLS = [
 # The greatest numbers, which take long on an image that is there.
 GREATEST = ["img", "4294967295", "100000"]
 
+# The words after `check`, and the image of which they are.
+CHECKS = [(["img"], "img"), (["-"], "-"), (["check"], "check"), (["--", "-x"], "-x"), (["img", "--"], "img"), (["--", "img"], "img")]
+
 # Words that are refused.
 REFUSED = [
     [], [""], ["play", "img"], ["Run", "img"], ["run"], ["run", "a", "b"], ["run", "img", ""], ["run", ""], ["run", "-x"], ["run", "-image"],
@@ -54,9 +57,8 @@ REFUSED = [
     ["run", b"\xff"], ["run", b"img\xff"], ["run", b"-\xff"], ["run", "img", b"\xff"], [b"\xff"], [b"run\xff", "img"], [b"\xc3", b"\xa9"],
     ["export", "img", b"/\xff"]]
 
-# Words of the calls to check, to export, to import and to serve, which are answered as the ones that are refused.
+# Words of the calls to export, to import and to serve, which are answered as the ones that are refused.
 UNOFFERED = [
-    ["check", "img"], ["check", "-"], ["check", "--", "-x"], ["check", "img", "--"],
     ["export", "img", "/"], ["export", "img", "/d"], ["export", "img", ""], ["export", "img", "d"], ["export", "img", "-"],
     ["export", "img", "--", "-d"], ["export", "--", "-x", "/d"], ["export", "--", "img", "--"],
     ["import", "img", "/"], ["import", "img", "/d"], ["import", "img", ""], ["import", "img", "--", "-d"], ["import", "--", "-x", "/d"],
@@ -118,6 +120,19 @@ def formats(betr, report):
             report((status, written) == (0, b"ok free %d of %d\n" % (slots - 2, slots)), f"words: format {words}, and a run")
 
 
+def checks(betr, report, fresh):
+    """Each check opens the file of its image and no other, reads no script, and leaves the file as it is."""
+    for words, image in CHECKS:
+        with Folder(betr) as folder:
+            (folder.path / image).write_bytes(fresh)
+            found = folder.call(["check", *words], b"mkdir /a\n")
+            is_kept = (folder.path / image).read_bytes() == fresh and folder.names() == [image]
+            report(found == (0, b"ok check nodes 1 keys 1 count 0\n") and is_kept, f"words: check {words}")
+        with Folder(betr) as folder:
+            found = folder.call(["check", *words])
+            report(found == (3, NO_IMAGE) and folder.names() == [], f"words: check {words} without an image")
+
+
 def counts(written):
     """How many replies there are, and how many of them begin with each word."""
     words = [reply.split()[0] for reply in written.splitlines()]
@@ -162,4 +177,5 @@ def test(rows, report):
     runs(rows.betr, report, made(rows.betr, 24))
     formats(rows.betr, report)
     fills(rows, report, made(rows.betr, 512))
+    checks(rows.betr, report, made(rows.betr, 24))
     refused(rows.betr, report)

@@ -177,7 +177,7 @@ never_two TooLong h = omega arith
 never_two (Worn which) h = omega arith
 never_two Sink h = omega arith
 
-never_zero : (e : Fault) → status_of e ≢ 0
+pub never_zero : (e : Fault) → status_of e ≢ 0
 never_zero Device h = omega arith
 never_zero (Damaged block) h = omega arith
 never_zero Source h = omega arith

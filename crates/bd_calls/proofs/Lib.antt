@@ -1,3 +1,4 @@
+pub mod Checks
 pub mod Ending
 pub mod Runs
 pub mod Trees

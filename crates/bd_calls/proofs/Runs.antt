@@ -334,7 +334,7 @@ module _ {D : Type 0} (g : Ghosts D) where
 -- ---- a volume that didn't start
 
 -- a count of faults rose, or it didn't
-rose_or_not : (before now : ℕ) → Rose before now ⊎ (Rose before now → ⊥)
+pub rose_or_not : (before now : ℕ) → Rose before now ⊎ (Rose before now → ⊥)
 rose_or_not before now = by (cases_lt before now) (cases_lt (now + 1) (2 ^ 64))
   where
     neither : now ≤ before → now + 1 < 2 ^ 64 → Rose before now → ⊥
@@ -609,6 +609,10 @@ ran_attached mode end acks before mid known shown calls since left writes failed
       calls_are faults_are time shows named r.worked;
 }
 
+-- a count after one more is one more at most
+pub next_few : (n : ℕ) → next_count n ≤ n + 1
+next_few n = grind (arith)
+
 -- an attach that failed
 pub ran_detached : (mode : Mode) (before now : Disk) (script w : Option (List ℕ)) (takes : Option Takes) (b a : Faults) → now.calls ≡ next_count before.calls
     → Elapses before.calls now.calls before.left now.left Nothing
@@ -617,9 +621,6 @@ ran_detached mode before now script w takes b a once time =
     ran_refused mode (before.calls + 2) Device before now script w takes b a tt (λ t n image is stands block damaged. cc) (λ t n image is stands which worn. cc)
     (λ t n image is stands. within Nothing (ImageStandsFor t n) time (λ c none. absurd none))
     (λ t n image is stands. inr (inl (omega (arith, once, next_few before.calls)))) (λ block damaged. cc)
-  where
-    next_few : (n : ℕ) → next_count n ≤ n + 1
-    next_few n = grind (arith)
 
 -- ---- causes
 
@@ -653,7 +654,7 @@ well_counts (Err e) old new before ended now last cause written = tt
 -- ---- where nothing fails
 
 -- a count of faults after one more rose
-rose_next : (before now : ℕ) → now ≡ next_count before → Rose before now
+pub rose_next : (before now : ℕ) → now ≡ next_count before → Rose before now
 rose_next before now one = subst (Rose before) (sym one) (by (cases_lt before (2 ^ 64 - 1)))
   where
     by : (before < 2 ^ 64 - 1) ⊎ (2 ^ 64 - 1 ≤ before) → Rose before (next_count before)

@@ -13,7 +13,7 @@ use Rattle.bd_shell.specs.declared.outcome.Ack.{Ack}
 use Rattle.bd_shell.specs.Fault.{Faults, status_of}
 use Rattle.bd_calls.specs.Offered.{is_offered}
 use Rattle.bd_calls.specs.Work.{Disk}
-use Rattle.bd_calls.specs.Run.{Does, Makes, Seen, Uses, WritesEnd, end_status, ends}
+use Rattle.bd_calls.specs.Run.{CanEnd, Does, Makes, Seen, Uses, WritesEnd, end_status, ends}
 use Rattle.bd_shell.specs.Session.{end_of}
 use Rattle.bd_calls.proofs.Fills.{never_two}
 use Rattle.bd_calls.proofs.Runs.{ran_refused}
@@ -77,7 +77,14 @@ does_unread (Fill image seed count) d script w w' takes b a status acks is none 
   takes_stay = refl;
   last = last;
 })
-does_unread (Check image) d script w w' takes b a status acks is none last offered = absurd (true≢false (sym offered))
+does_unread (Check image) d script w w' takes b a status acks is none last offered = inr (record {
+  status_is = is;
+  acked = none;
+  disk_stays = record { image = refl; calls = refl; left = λ call image. (λ was. was, λ is. is); write_faults = refl; last_failed = refl };
+  script_stays = refl;
+  takes_stay = refl;
+  last = last;
+})
 does_unread (Export image path) d script w w' takes b a status acks is none last offered = absurd (true≢false (sym offered))
 does_unread (Import image path) d script w w' takes b a status acks is none last offered = absurd (true≢false (sym offered))
 does_unread (Serve image) d script w w' takes b a status acks is none last offered = absurd (true≢false (sym offered))
@@ -86,7 +93,7 @@ pub uses_unread : (call : Call) (status : ℕ) (before now : Seen) (N U T : Type
 uses_unread (Run image) status before now N U T is untouched untaken offered = inr (inr ((is, untouched), untaken))
 uses_unread (Format image slots) status before now N U T is untouched untaken offered = (inr (inr (is, untouched)), untaken)
 uses_unread (Fill image seed count) status before now N U T is untouched untaken offered = (inr (inr (is, untouched)), untaken)
-uses_unread (Check image) status before now N U T is untouched untaken offered = absurd (true≢false (sym offered))
+uses_unread (Check image) status before now N U T is untouched untaken offered = (inr (inr (is, untouched)), untaken)
 uses_unread (Export image path) status before now N U T is untouched untaken offered = absurd (true≢false (sym offered))
 uses_unread (Import image path) status before now N U T is untouched untaken offered = absurd (true≢false (sym offered))
 uses_unread (Serve image) status before now N U T is untouched untaken offered = absurd (true≢false (sym offered))
@@ -100,16 +107,24 @@ pub makes_unread : {D : Type 0} (g : Ghosts D) (call : Call) (status : ℕ) (old
 makes_unread g (Run image) status old new is offered = λ zero. absurd (not_done status is (inl zero))
 makes_unread g (Format image slots) status old new is offered = λ done. absurd (not_done status is done)
 makes_unread g (Fill image seed count) status old new is offered = λ done. absurd (not_done status is done)
-makes_unread g (Check image) status old new is offered = absurd (true≢false (sym offered))
+makes_unread g (Check image) status old new is offered = λ zero. absurd (not_done status is (inl zero))
 makes_unread g (Export image path) status old new is offered = absurd (true≢false (sym offered))
 makes_unread g (Import image path) status old new is offered = absurd (true≢false (sym offered))
 makes_unread g (Serve image) status old new is offered = absurd (true≢false (sym offered))
 
 -- want of memory is one of the statuses that a call may end with where nothing fails
-pub complete_unread : {A : Type 0} (R : A → Type 0) (F : Type 0) (o : Option A) (status : ℕ) → status ≡ status_of Memory
-    → IfSome o (λ call. R call → F → (status ≡ 0) ⊎ (status ≡ 6) ⊎ (status ≡ 8))
+ends_unread : (call : Call) (status : ℕ) → status ≡ status_of Memory → CanEnd call status
+ends_unread (Run image) status is = inr (inl is)
+ends_unread (Format image slots) status is = inr (inl is)
+ends_unread (Fill image seed count) status is = inr (inl is)
+ends_unread (Check image) status is = inl (inr (inl is))
+ends_unread (Export image path) status is = inr (inl is)
+ends_unread (Import image path) status is = inr (inl is)
+ends_unread (Serve image) status is = inr (inl is)
+
+pub complete_unread : (R : Call → Type 0) (F : Type 0) (o : Option Call) (status : ℕ) → status ≡ status_of Memory → IfSome o (λ call. R call → F → CanEnd call status)
 complete_unread R F None status is = tt
-complete_unread R F (Some call) status is = λ ready faultless. inr (inl is)
+complete_unread R F (Some call) status is = λ ready faultless. ends_unread call status is
 
 -- want of memory isn't the sink's fault
 pub unread_flushed : {T P : Type 0} → (◌≡◌ {A = Result T Fault} (Err Memory) (Err Sink)) ⊎ P → P

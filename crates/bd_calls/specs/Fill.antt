@@ -67,16 +67,16 @@ abbrev pub WritesSome : List ℕ → Known → Known → ℕ → ℕ → Type 0
 WritesSome line old new before now =
     (new ≡ append_known old line) ⊎ (WrotePart line old new × Rose before now)
 
--- the summary was written where no fault ended the lines: all of it, or as far as the sink's own
--- fault let it be
-abbrev pub TellsWell : ℕ → List ℕ → Known → Known → ℕ → ℕ → Type 0
-TellsWell status said old new before now =
-    ((status ≡ 0) × (new ≡ append_known old said) × (now ≡ before))
+-- a line was written: all of it, and the call ends well with this status; or as far as the sink's
+-- own fault let it be
+abbrev pub TellsLine : ℕ → ℕ → List ℕ → Known → Known → ℕ → ℕ → Type 0
+TellsLine well status said old new before now =
+    ((status ≡ well) × (new ≡ append_known old said) × (now ≡ before))
     ⊎ ((status ≡ status_of Sink) × WritesSome said old new before now × Rose before now)
 
 -- the summary is written, and after it the line of the fault that ended the lines, where one did;
 -- else the sink's own fault may end the call
 abbrev pub TellsSummary : Option Fault → ℕ → List ℕ → Known → Known → ℕ → ℕ → Type 0
-TellsSummary None status said old new before now = TellsWell status said old new before now
+TellsSummary None status said old new before now = TellsLine 0 status said old new before now
 TellsSummary (Some e) status said old new before now =
     (status ≡ status_of e) × WritesSome (said ++ fault_line e) old new before now

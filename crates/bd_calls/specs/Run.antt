@@ -1,5 +1,5 @@
 -- What a whole run says of its device, source and sink.
-use Rattle.std.specs.Prelude.{◌≡◌, ◌⊎◌, ◌↔◌, ℕ, ◌+◌, ◌≤◌, List, [], ◌∷◌, ◌++◌, codes, length, IfSome, IsSome, IsSomeAnd, ⊤}
+use Rattle.std.specs.Prelude.{◌≡◌, ◌⊎◌, ◌↔◌, ℕ, ◌+◌, ◌≤◌, List, [], ◌∷◌, ◌++◌, codes, length, IfSome, IsSome, IsSomeAnd, IfOk, IfErr, Result, ⊤}
 use Rattle.std.specs.Io.KnownBytes.{append_known, prepend_known}
 use Rattle.std.specs.declared.option.Option.{Option}
 use Rattle.std.specs.declared.option.Option.TheVariants.{None, Some}
@@ -20,12 +20,15 @@ use Rattle.bd_words.specs.Words.{Call, Run, Format, Fill, Check, Export, Import,
 use Rattle.bd_shell.specs.declared.fault.Fault.{Fault}
 use Rattle.bd_shell.specs.declared.fault.Fault.TheVariants.{Memory}
 use Rattle.bd_shell.specs.declared.outcome.Ack.{Ack}
-use Rattle.bd_shell.specs.Fault.{status_of, fault_line, Faults, faults, Caused}
+use Rattle.bd_check.specs.Verdicts.{IsRightOf}
+use Rattle.bd_check.specs.declared.verdict.Verdict.{Verdict}
+use Rattle.bd_shell.specs.Fault.{status_of, fault_line, Faults, faults, Caused, IsCaused}
 use Rattle.bd_calls.specs.Work.{Disk, disk, AllDurable, Worked}
 use Rattle.bd_calls.specs.Format.{SaysDone, format_acks, HasNewImage}
 use Rattle.bd_shell.specs.Transcript.{Known, Exchange, lines_to_run}
 use Rattle.bd_shell.specs.Session.{Among, BeginsWith, ReadOut, TakenAt, Replied, has_stop}
 use Rattle.bd_shell.specs.Taken.{Took}
+use Rattle.bd_calls.specs.Check.{KeepsFromAnswering, KeepsImage, TellsVerdict}
 use Rattle.bd_calls.specs.Fill.{CanEndLines, TellsSummary, said_in}
 
 -- the status of an end
@@ -179,6 +182,22 @@ pub record Filled (seed count status : ℕ) (acks : List Ack) (before now : Ends
   pub script_stays : now.script ≡ before.script
   pub takes_stay : now.takes ≡ before.takes
 
+-- how checking an image went: what was found out, or the fault that came before that, to which the
+-- status and what is written are tied, with the counts of faults before that; no block was written,
+-- the source stays as it was, and nothing was acknowledged
+pub record Checked (status : ℕ) (acks : List Ack) (before now : Ends) : Type 0 where
+  pub found : Result Verdict Fault
+  pub right : IfOk found (IsRightOf before.disk.image)
+  pub why : IfErr found (KeepsFromAnswering before.disk.image)
+  pub keeps : KeepsImage (before.disk.calls + 2) before.disk now.disk
+  pub ended : Faults
+  pub caused : IsCaused before.faults ended now.disk.last_failed found
+  pub told : TellsVerdict found status before.written now.written ended.sink now.faults.sink
+  pub last : now.faults ≡ record ended { sink = now.faults.sink }
+  pub script_stays : now.script ≡ before.script
+  pub takes_stay : now.takes ≡ before.takes
+  pub acked : acks ≡ []
+
 -- the same is told of the image
 pub record IsSameDisk (before now : Disk) : Type 0 where
   pub image : now.image ≡ before.image
@@ -197,13 +216,14 @@ pub record Unread (status : ℕ) (acks : List Ack) (before now : Ends) : Type 0 
   pub last : WritesEnd (Some Memory) before.written now.written before.faults now.faults
 
 -- how a call went; where its words weren't read a run and a format end as by want of memory later,
--- and a fill without a summary. The calls that aren't offered never go
+-- and a fill or a check without its line. The calls that aren't offered never go
 abbrev pub Does : Call → ℕ → List Ack → Ends → Ends → Type 0
 Does (Run image) status acks before now = Went Single status acks before now
 Does (Format image slots) status acks before now = Formatted status acks before now
 Does (Fill image seed count) status acks before now =
     Filled seed count status acks before now ⊎ Unread status acks before now
-Does (Check image) status acks before now = ⊥
+Does (Check image) status acks before now =
+    Checked status acks before now ⊎ Unread status acks before now
 Does (Export image path) status acks before now = ⊥
 Does (Import image path) status acks before now = ⊥
 Does (Serve image) status acks before now = ⊥
@@ -246,8 +266,8 @@ abbrev pub IsUnread : ℕ → Type 0 → Type 0
 IsUnread status untouched = (status ≡ status_of Memory) × untouched
 
 -- what a call does with the device: the image is attached, and goes by its name then, or where that
--- fails nothing else is done, and a run or a fill leaves the image that it was to use; or the words
--- weren't read
+-- fails nothing else is done, and all but a format leave the image that they were to use; or the
+-- words weren't read
 abbrev pub Uses : Call → ℕ → Seen → Seen → Type 0 → Type 0 → Type 0 → Type 0
 Uses (Run image) status before now named untouched untaken = named
     ⊎ (IsDetached status before now × (now.shows image ≡ before.shows image) × untaken)
@@ -257,7 +277,9 @@ Uses (Format image slots) status before now named untouched untaken =
 Uses (Fill image seed count) status before now named untouched untaken = (named
     ⊎ (IsDetached status before now × (now.shows image ≡ before.shows image))
     ⊎ IsUnread status untouched) × untaken
-Uses (Check image) status before now named untouched untaken = ⊥
+Uses (Check image) status before now named untouched untaken = (named
+    ⊎ (IsDetached status before now × (now.shows image ≡ before.shows image))
+    ⊎ IsUnread status untouched) × untaken
 Uses (Export image path) status before now named untouched untaken = ⊥
 Uses (Import image path) status before now named untouched untaken = ⊥
 Uses (Serve image) status before now named untouched untaken = ⊥
@@ -272,9 +294,9 @@ image_of (Export image path) = image
 image_of (Import image path) = image
 image_of (Serve image) = image
 
--- what else is said of a call's device: no write of a run or a fill failed that ends well, of a fill
--- also by the sink, and a format that ends well or by the sink has made an image of so many slots,
--- whatever there was
+-- what else is said of a call's device: no write of a run, a fill or a check failed that ends well,
+-- of a fill also by the sink, and a format that ends well or by the sink has made an image of so
+-- many slots, whatever there was
 abbrev pub Makes : {D : Type 0} → Ghosts D → Call → ℕ → D → D → Type 0
 Makes g (Run image) status old new =
     status ≡ 0 → g.write_fault_count new ≡ g.write_fault_count old
@@ -282,7 +304,8 @@ Makes g (Format image slots) status old new = (status ≡ 0) ⊎ (status ≡ 9)
     → (g.block_count new ≡ image_blocks slots) × (IsSome (g.contents old) → HasNewImage g new)
 Makes g (Fill image seed count) status old new = (status ≡ 0) ⊎ (status ≡ 9)
     → g.write_fault_count new ≡ g.write_fault_count old
-Makes g (Check image) status old new = ⊥
+Makes g (Check image) status old new =
+    status ≡ 0 → g.write_fault_count new ≡ g.write_fault_count old
 Makes g (Export image path) status old new = ⊥
 Makes g (Import image path) status old new = ⊥
 Makes g (Serve image) status old new = ⊥
@@ -294,16 +317,30 @@ abbrev pub HasStart : Image → Type 0
 HasStart image = (t : Tree) × (n : ℕ) × ImageStandsFor t n image
 
 -- what a call takes is there: for a run an image that is known and has a tree, and a script that is
--- known and isn't too long
+-- known and isn't too long; for a check an image that is known
 abbrev pub IsReady : Call → Option Image → Known → Type 0
 IsReady (Run image) shown script =
     IsSomeAnd shown HasStart × IsSomeAnd script (λ bytes. length bytes ≤ script_limit)
 IsReady (Format image slots) shown script = ⊤
 IsReady (Fill image seed count) shown script = IsSomeAnd shown HasStart
-IsReady (Check image) shown script = ⊥
+IsReady (Check image) shown script = IsSome shown
 IsReady (Export image path) shown script = ⊥
 IsReady (Import image path) shown script = ⊥
 IsReady (Serve image) shown script = ⊥
+
+-- a call ended well, for want of memory, or where a counter is worn
+abbrev pub EndsUnfailed : ℕ → Type 0
+EndsUnfailed status = (status ≡ 0) ⊎ (status ≡ 6) ⊎ (status ≡ 8)
+
+-- how a call may end then: so, and a check may say no
+abbrev pub CanEnd : Call → ℕ → Type 0
+CanEnd (Run image) status = EndsUnfailed status
+CanEnd (Format image slots) status = EndsUnfailed status
+CanEnd (Fill image seed count) status = EndsUnfailed status
+CanEnd (Check image) status = EndsUnfailed status ⊎ (status ≡ 10)
+CanEnd (Export image path) status = EndsUnfailed status
+CanEnd (Import image path) status = EndsUnfailed status
+CanEnd (Serve image) status = EndsUnfailed status
 
 -- the outside doesn't fail
 pub record IsFaultless (before now : Faults) : Type 0 where

@@ -9,8 +9,9 @@ ghost use Rattle.bd_shell.specs.Fault.{faults, NeverFall, IsCaused, status_of};
 ghost use Rattle.bd_shell.specs.Session.{end_of};
 ghost use Rattle.bd_calls.specs.Offered.{IsUnoffered, is_offered, offered};
 ghost use Rattle.bd_calls.specs.Work.{disk};
-ghost use Rattle.bd_calls.specs.Run.{EndsUncalled, end_status, ends, Does, IsFaultless, IsFlushed, IsReady, Makes, Ran, Uses, WritesEnd, WritesLast, image_of, seen, usage_line};
+ghost use Rattle.bd_calls.specs.Run.{CanEnd, EndsUncalled, end_status, ends, Does, IsFaultless, IsFlushed, IsReady, Makes, Ran, Uses, WritesEnd, WritesLast, image_of, seen, usage_line};
 
+use crate::checking::{check_image, end_check};
 use crate::fill::{end_fill, fill_image};
 use crate::format::format_image;
 use crate::task::{Task, read_task};
@@ -215,13 +216,15 @@ fn end_unread<K: Sink>(alloc: Global, sink: &mut K) -> Outcome
 /// seed makes, eight lines and `COUNT` more, as `run` does one that a source gives: the source isn't
 /// touched, and in place of the replies one line `fill L ok A no B full C` tells how many lines were
 /// executed, and how many of their replies say `ok`, `no` and `full`; at a fault it comes before the
-/// fault's line. Other words have the usage line written, and nothing else is done (status 2); so
-/// have those of `check`, `export`, `import` and `serve`, though they make a call. The first fault
-/// ends the run with its status, and its line where the sink takes it: the device 3, damage 4, of a
-/// bad block of the image, the source 5, memory 6, a script of more than 16,777,216 bytes 7, a
-/// counter 8, the sink 9. Where there is no memory to read the words, that fault's line is all that
-/// is done. Before each take and at the end the sink passes on all that was written; after its own
-/// fault it isn't called again.
+/// fault's line. `PROGRAM check IMAGE` writes no block: it finds out whether the image stands for a
+/// tree, and writes `ok check nodes N keys K count C` (status 0), or `no check block B`, `no check
+/// node I` or `no check limit 16777216` (status 10). Other words have the usage line written, and
+/// nothing else is done (status 2); so have those of `export`, `import` and `serve`, though they
+/// make a call. The first fault ends the run with its status, and its line where the sink takes it:
+/// the device 3, damage 4, of a bad block of the image, the source 5, memory 6, a script of more
+/// than 16,777,216 bytes 7, a counter 8, the sink 9. Where there is no memory to read the words,
+/// that fault's line is all that is done. Before each take and at the end the sink passes on all
+/// that was written; after its own fault it isn't called again.
 ///
 /// At each `sync`, at `stop` and at the end of the script all accepted commands are made durable
 /// and acknowledged; at a fault they aren't. Stopped at any moment, the image stands for the tree
@@ -295,12 +298,13 @@ pub fn run<D: Attach, S: Source, K: Sink>(
         → faults (D.fault_count dev.new) (S.fault_count src.new) (K.fault_count sink.new)
         ≡ faults (D.fault_count dev.old) (S.fault_count src.old) (K.fault_count sink.old) }
 
-    // Where nothing fails, the call is done, unless memory runs out or a counter is worn.
+    // Where nothing fails, the call is done, unless memory runs out or a counter is worn; a check
+    // may say no.
     ensures complete { IfSome (offered (map string_bytes words.now)) (λ call.
         IsReady call (D.shows dev.old (image_of call)) (S.left src.old) → IsFaultless
         (faults (D.fault_count dev.old) (S.fault_count src.old) (K.fault_count sink.old))
         (faults (D.fault_count dev.new) (S.fault_count src.new) (K.fault_count sink.new))
-        → (result.status ≡ 0) ⊎ (result.status ≡ 6) ⊎ (result.status ≡ 8)) }
+        → CanEnd call result.status) }
 {
     match read_task(alloc, words) {
         Ok(Task::Run { image }) => {
@@ -314,6 +318,10 @@ pub fn run<D: Attach, S: Source, K: Sink>(
         Ok(Task::Fill { image, seed, count }) => {
             let filled = fill_image(alloc, image, seed, count, dev);
             end_fill(sink, filled)
+        }
+        Ok(Task::Check { image }) => {
+            let found = check_image(alloc, image, dev);
+            end_check(alloc, sink, found)
         }
         Err(WordsFault::Refused) => end_refused(alloc, sink),
         Err(WordsFault::NoMemory) => end_unread(alloc, sink),

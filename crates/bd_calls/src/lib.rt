@@ -4,6 +4,7 @@
 #![tactic(auto)]
 
 mod calling;
+mod checking;
 mod fill;
 mod format;
 pub mod laws;

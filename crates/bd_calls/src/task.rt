@@ -26,6 +26,10 @@ pub enum Task<'a> {
         seed: u32,
         count: u32,
     },
+    /// To find out whether the image of this name stands for a tree.
+    Check {
+        image: &'a str,
+    },
 }
 
 /// What the words ask of the program. The words of a call that it doesn't do are refused, as words
@@ -53,6 +57,7 @@ fn task_of(call: Call<'_>) -> Option<Task<'_>>
         Call::Run { image } => Some(Task::Run { image }),
         Call::Format { image, slots } => Some(Task::Format { image, slots }),
         Call::Fill { image, seed, count } => Some(Task::Fill { image, seed, count }),
-        Call::Check { .. } | Call::Export { .. } | Call::Import { .. } | Call::Serve { .. } => None,
+        Call::Check { image } => Some(Task::Check { image }),
+        Call::Export { .. } | Call::Import { .. } | Call::Serve { .. } => None,
     }
 }

@@ -1,5 +1,5 @@
 -- Which verdicts are right of an image.
-use Rattle.std.specs.Prelude.{◌≡◌, ◌⊎◌, ⊤, ℕ, Bool, not, nat_lt, length}
+use Rattle.std.specs.Prelude.{◌≡◌, ◌⊎◌, ⊤, ℕ, Bool, not, nat_lt, length, Option, IfSome}
 use Rattle.bd_model.specs.Tree.{Tree}
 use Rattle.bd_device.specs.Blocks.{Image}
 use Rattle.bd_node.specs.Meaning.{Nodes}
@@ -81,6 +81,17 @@ IsVerdictOn image (Yes nodes keys count) = IsYes image nodes keys count
 IsVerdictOn image (BadBlock block) = IsNamedAt image block
 IsVerdictOn image (BadNode id) = IsBadNode image id
 IsVerdictOn image Limit = HasTooManyKeys image
+
+-- the same of what reads give, as far as that is known
+abbrev pub IsRightOf : Option Image → Verdict → Type 0
+IsRightOf known v = IfSome known (λ image. IsVerdictOn image v)
+
+-- it is a yes
+abbrev pub SaysYes : Verdict → Type 0
+SaysYes (Yes nodes keys count) = ⊤
+SaysYes (BadBlock block) = ⊥
+SaysYes (BadNode id) = ⊥
+SaysYes Limit = ⊥
 
 -- a yes with this count, or the limit
 abbrev pub IsGoodAnswer : ℕ → Verdict → Type 0

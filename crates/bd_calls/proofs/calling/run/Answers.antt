@@ -6,11 +6,12 @@ use Rattle.bd_sessions.specs.Spoken.{Single}
 use Rattle.bd_shell.specs.Fault.{faults}
 use Rattle.bd_shell.specs.Session.{end_of}
 use Rattle.bd_fill.specs.Counting.{tally_line}
-use Rattle.bd_words.specs.Words.{Run, Format, Fill}
+use Rattle.bd_words.specs.Words.{Run, Format, Fill, Check}
 use Rattle.bd_shell.proofs.Moving.{is_caused_beside}
 use Rattle.bd_calls.specs.Offered.{call_at}
 use Rattle.bd_calls.proofs.Offered.{for_offered, never_refused}
 use Rattle.bd_calls.proofs.Runs.{of_call, ended_well, ok_of_none, well_counts, run_complete, cause_of}
+use Rattle.bd_calls.proofs.Checks.{check_complete, check_flushed, check_used, if_ok, ok_kept, verdict_well}
 use Rattle.bd_calls.proofs.Fills.{fill_complete, fill_device, fill_short, told_done, told_well}
 use Rattle.bd_calls.proofs.Unread.{complete_unread, does_unread, makes_unread, none_is, of_none, uses_unread}
 use Rattle.bd_calls.proofs.calling.run.Goals as goal
@@ -114,6 +115,68 @@ returns-in-Ok-Fill-clause-complete g c =
     of_call _ _ (Fill call.image.now call.seed call.count) (ap (λ f. Some (call_at f)) (sym call.field-0-is) ∙ sym call.ensures.task)
     (λ ready f. fill_complete filled.result.ended.result _ call.seed call.count _ _ _ _ _ _ _ _ _ _ _ _ _ (fill_short call.seed call.count (search rules))
     filled.ensures.ran (filled.ensures.cause 0) c.end_fill.ensures.told ready f)
+
+pub returns-in-Ok-Check-clause-does : goal.returns-in-Ok-Check-clause-does
+returns-in-Ok-Check-clause-does g c =
+    let found = c.check_image-found in
+    let call = c.in-Ok-Check in
+    let sink = g.K.Sink.fault_count c.args.sink.now in
+    of_call _ _ (Check call.image.now) (ap (λ f. Some (call_at f)) (sym call.field-0-is) ∙ sym call.ensures.task)
+    (inl (record {
+      found = found.result;
+      right = found.ensures.right;
+      why = found.ensures.why;
+      keeps = found.ensures.keeps;
+      ended = faults (g.D.Device.fault_count found.new.dev) (g.S.Source.fault_count c.args.src.now) sink;
+      caused = is_caused_beside found.result _ sink _ sink (g.S.Source.fault_count c.args.src.now) _ (found.ensures.cause sink);
+      told = c.end_check.ensures.told;
+      last = refl;
+      script_stays = refl;
+      takes_stay = refl;
+      acked = c.end_check.ensures.acks;
+    }))
+
+pub returns-in-Ok-Check-clause-device : goal.returns-in-Ok-Check-clause-device
+returns-in-Ok-Check-clause-device g c =
+    let found = c.check_image-found in
+    let call = c.in-Ok-Check in
+    of_call _ _ (Check call.image.now) (ap (λ f. Some (call_at f)) (sym call.field-0-is) ∙ sym call.ensures.task)
+    (check_used found.result _ _ _ _ _ _ _ call.image.now c.end_check.ensures.told found.ensures.attached, refl)
+
+pub returns-in-Ok-Check-clause-makes : goal.returns-in-Ok-Check-clause-makes
+returns-in-Ok-Check-clause-makes g c =
+    let found = c.check_image-found in
+    let call = c.in-Ok-Check in
+    of_call _ _ (Check call.image.now) (ap (λ f. Some (call_at f)) (sym call.field-0-is) ∙ sym call.ensures.task)
+    (λ zero. verdict_well found.result _ _ _ _ _ _ c.end_check.ensures.told zero (λ v is yes same. if_ok _ found.result v is found.ensures.writes yes))
+
+pub returns-in-Ok-Check-clause-faultless : goal.returns-in-Ok-Check-clause-faultless
+returns-in-Ok-Check-clause-faultless g c zero =
+    let found = c.check_image-found in
+    let sink = g.K.Sink.fault_count c.args.sink.now in
+    let source = g.S.Source.fault_count c.args.src.now in
+    verdict_well found.result _ _ _ _ _ _ c.end_check.ensures.told zero (λ v is yes same.
+    ap (λ k. faults (g.D.Device.fault_count found.new.dev) source k) same
+    ∙ ok_kept found.result v _ is (is_caused_beside found.result _ sink _ sink source _ (found.ensures.cause sink)).kept)
+
+pub returns-in-Ok-Check-clause-later : goal.returns-in-Ok-Check-clause-later
+returns-in-Ok-Check-clause-later g c = record {
+  device = (c.check_image-found.ensures.cause 0).later.device;
+  source = omega arith;
+  sink = c.end_check.ensures.later;
+}
+
+pub returns-in-Ok-Check-clause-flushed : goal.returns-in-Ok-Check-clause-flushed
+returns-in-Ok-Check-clause-flushed g c =
+    let found = c.check_image-found in
+    check_flushed found.result _ _ found.ensures.why c.end_check.ensures.flushed
+
+pub returns-in-Ok-Check-clause-complete : goal.returns-in-Ok-Check-clause-complete
+returns-in-Ok-Check-clause-complete g c =
+    let found = c.check_image-found in
+    let call = c.in-Ok-Check in
+    of_call _ _ (Check call.image.now) (ap (λ f. Some (call_at f)) (sym call.field-0-is) ∙ sym call.ensures.task)
+    (λ ready f. check_complete found.result _ _ _ _ _ _ _ _ _ _ _ c.end_check.ensures.told (found.ensures.cause 0) found.ensures.why f)
 
 pub returns-in-Err-Refused-clause-does : goal.returns-in-Err-Refused-clause-does
 returns-in-Err-Refused-clause-does g c = of_none _ _ (c.in-Err-Refused.ensures.refused c.in-Err-Refused.field-0-is)
