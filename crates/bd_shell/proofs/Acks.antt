@@ -1,6 +1,6 @@
 -- Acknowledgements that come one after the other.
 use Rattle.std.proofs.Common.{◌≡◌, ℕ, ◌+◌, List, [], ◌∷◌, ◌++◌, refl, sym, ap, subst, ◌∙◌, append_assoc, arith, length-append}
-use Rattle.std.proofs.lemmas.List.{append-nil}
+use Rattle.std.proofs.lemmas.List.{append-nil, nil_from_length}
 use Rattle.bd_sessions.specs.Spoken.{Spoken}
 use Rattle.bd_shell.specs.declared.outcome.Ack.{Ack}
 use Rattle.bd_shell.specs.Transcript.{Exchange, HasAcked, durable, executed}
@@ -19,6 +19,9 @@ durable-joined xs ys = sym (ap durable (executed-append xs ys) ∙ durable-appen
 
 pub acks_none : (acks : List Ack) → HasAcked 0 acks acks
 acks_none acks = record { more = []; acks_are = sym (append-nil acks); count_is = refl }
+
+pub acks_same : (old new : List Ack) → HasAcked 0 old new → new ≡ old
+acks_same old new h = h.acks_are ∙ ap (λ l. old ++ l) (nil_from_length h.more h.count_is) ∙ append-nil old
 
 pub acks_one : (a : Ack) (old new : List Ack) → new ≡ old ++ a ∷ [] → HasAcked 1 old new
 acks_one a old new is = record { more = a ∷ []; acks_are = is; count_is = refl }

@@ -414,6 +414,10 @@ pub record HasTranscript (s : State) (xs : List Exchange) (at : State → Type 0
 abbrev pub alone : LineMeaning → Spoken
 alone line = record { client = None; turn = plain line }
 
+-- a command that no client gave
+abbrev pub commanded : Command → Spoken
+commanded c = alone (Ok (Run c))
+
 -- what the lines that are complete, each with its newline, mean
 abbrev pub meanings : Mode → List ℕ → List Spoken
 meanings mode bytes = map (spoken mode) (whole_lines bytes)

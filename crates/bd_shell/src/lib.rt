@@ -7,6 +7,7 @@
 mod acknowledged;
 mod fault;
 mod outcome;
+mod plain;
 mod session;
 mod shell;
 

@@ -4,26 +4,29 @@ ghost use Rattle.std.specs.Io.KnownBytes.{append_known};
 ghost use Rattle.bd_io.specs.Cause.{HasCause};
 ghost use Rattle.bd_io.specs.Written.{WrotePart};
 ghost use Rattle.bd_message.specs.declared.fault.Counter.{Counter};
+ghost use Rattle.bd_command.specs.Command.{IsCommand};
 ghost use Rattle.bd_model.specs.Tree.{Tree};
 ghost use Rattle.bd_device.specs.Device.{Stays};
 ghost use Rattle.bd_image.specs.ImageTree.{ImageStandsFor};
 ghost use Rattle.bd_script.specs.Lines.{line_of, open_line, held, held_limit, is_empty, IsLine, HasNoNewline};
 ghost use Rattle.bd_script.specs.Replies.{line_reply_text, line_reply_line, IsLineReply};
 ghost use Rattle.bd_sessions.specs.Spoken.{Single, is_stop, spoken};
+ghost use Rattle.bd_sessions.specs.declared.replies.TurnReply.TheVariants.{Line as Said};
 ghost use Rattle.bd_engine.specs.Stored.{HasSaved};
 ghost use Rattle.bd_volume.specs.Faults.{IsStartCause};
 ghost use Rattle.bd_volume.specs.Starts.{OnlyStarts};
 ghost use Rattle.bd_volume.specs.Volume.{IsFirstView};
 ghost use Rattle.bd_volume.specs.Wears.{WearsReplaying};
 ghost use Rattle.bd_shell.specs.Fault.{IsCaused};
-ghost use Rattle.bd_shell.specs.Transcript.{State, state_at, synced_state, with_view, HasAcked, MayGet, acks_due, meanings, output};
+ghost use Rattle.bd_shell.specs.Transcript.{State, state_at, synced_state, with_view, HasAcked, IsAnswered, MayGet, acks_due, commanded, meanings, output};
 ghost use Rattle.bd_shell.specs.Session.{Executes, Later, breaks};
-ghost use Rattle.bd_shell.specs.Shell.{KeptAt, TurnsAt, ShellAt, Acknowledges, Replies, ExecutesOne, view_in, acks_below, acks_in, held_of, device_below, device_in, stop_below, stop_in, counts_of, CanStart, MayStart, FailsNoWrite, NamesBad, is_stopped, last_lines, completed, IsHeld, ComesNow, IsOutcome, CutsAt, IsLineFault, LineFails, RunFails, BreaksOff};
+ghost use Rattle.bd_shell.specs.Shell.{KeptAt, TurnsAt, ShellAt, Acknowledges, Replies, ExecutesOne, RepliesTo, TurnFails, view_in, acks_below, acks_in, held_of, device_below, device_in, stop_below, stop_in, counts_of, CanStart, MayStart, FailsNoWrite, NamesBad, is_stopped, last_lines, completed, IsHeld, ComesNow, IsOutcome, CutsAt, IsLineFault, LineFails, RunFails, BreaksOff};
 
 use crate::acknowledged::Acknowledged;
 use crate::fault::Fault;
 use crate::outcome::Ack;
-use bd_command::Refusal;
+use crate::plain::is_one_line;
+use bd_command::{Command, Refusal};
 use bd_device::Device;
 use bd_io::{Failed, Sink, put_all};
 use bd_keys::Items;
@@ -412,6 +415,35 @@ impl<D: Device + Drop> Shell<D> {
             return Ok(ControlFlow::Continue(()));
         }
         run_line(alloc, &mut self.kept, &self.line, &mut self.buffer, sink)
+    }
+
+    /// Executes a command that no client gave, whose reply is returned and not written. A fault
+    /// leaves what it leaves of a line of a script.
+    pub fn do_command(&mut self, command: Command) -> Result<LineReply, Fault>
+        requires limits { IsCommand command }
+        requires going { stop_in self.old ≡ None }
+        ensures ok { IfOk result (λ said. (first : D) (since : ℕ) (s : State)
+            → ShellAt D.Device first since self.old s
+            → RepliesTo s (commanded command) (Said said)
+            (ShellAt D.Device first since self.new)) }
+        ensures err { IfErr result (λ e. (first : D) (since : ℕ) (s : State)
+            → ShellAt D.Device first since self.old s
+            → TurnFails e s (commanded command) (ShellAt D.Device first since self.new)) }
+        ensures answer { IfOk result (λ said.
+            IsAnswered (record { line = commanded command; said = Said said })) }
+        ensures unacked { acks_in self.new ≡ acks_in self.old }
+        ensures fault { IfErr result IsLineFault }
+        ensures going { OnOk result (stop_in self.new ≡ None) }
+        ensures device { Stays D.Device (device_in self.old) (device_in self.new) }
+        ensures writes { FailsNoWrite D.Device (device_in self.old) (device_in self.new) result }
+        ensures damage { NamesBad (D.contents (device_in self.new)) result }
+        ensures cause { (sink : ℕ) → IsCaused (counts_of D.Device (device_in self.old) sink)
+            (counts_of D.Device (device_in self.new) sink)
+            (D.last_failed (device_in self.new)) result }
+    {
+        let said = execute(&mut self.kept, &Line::Run(command))?;
+        is_one_line(&said);
+        Ok(said)
     }
 
     /// Makes all that was accepted durable at the end of a script, and acknowledges it.

@@ -3,6 +3,7 @@
 ghost use Rattle.std.specs.Prelude.{◌≡◌, ◌≢◌, ◌≤◌, ◌+◌, [], ◌++◌, length, take, unwrap_or, IfOk, OnOk, IfErr, IfSome};
 ghost use Rattle.std.specs.Option.{option_map};
 ghost use Rattle.bd_limits.specs.Limits.{file_limit};
+ghost use Rattle.bd_command.specs.Command.{IsAfter, IsCommand, IsShortPath};
 ghost use Rattle.bd_names.specs.Names.{parent_of};
 ghost use Rattle.bd_stream.specs.Heads.{IsHead, head_bytes};
 ghost use Rattle.bd_stream.specs.Exporting.{begin, asked, ask_beside, answered, looked_at, after_head, left_at, pieced, filed, closed, named, names_after, listed, head_in, magic_before, piece_in, piece_size, last_name, closed_stage, closed_bytes};
@@ -53,19 +54,20 @@ impl Exporter {
     /// What is asked: a `stat`, a `read` or a `list`. It is `None` where the stream is complete, and
     /// after a fault.
     pub fn ask(&self, alloc: Global) -> Result<Option<Command>, AllocError>
-        ensures { IfOk result (λ command. command ≡ asked (seen self.now)) }
+        ensures asked { IfOk result (λ command. command ≡ asked (seen self.now)) }
+        ensures limits { IfOk result (λ command. IfSome command IsCommand) }
     {
         match self.stage {
             Stage::Look => Ok(Some(Command::Stat {
-                path: self.place.path.clone()?,
+                path: for_command(&self.place.path)?,
             })),
             Stage::Piece { off, left } => Ok(Some(Command::Read {
-                path: self.place.path.clone()?,
+                path: for_command(&self.place.path)?,
                 off,
                 len: piece_size(left),
             })),
             Stage::Inside => Ok(Some(Command::List {
-                path: self.place.path.clone()?,
+                path: for_command(&self.place.path)?,
                 after: None,
             })),
             Stage::Beside => self.ask_beside(alloc),
@@ -99,13 +101,14 @@ impl Exporter {
 
     // The names in the directory around the entry are asked.
     fn ask_beside(&self, alloc: Global) -> Result<Option<Command>, AllocError>
-        ensures { IfOk result (λ command. command ≡ ask_beside self.now.top
+        ensures asked { IfOk result (λ command. command ≡ ask_beside self.now.top
             (parent_of self.now.place.below) (last_name self.now.place.below)) }
+        ensures limits { IfOk result (λ command. IfSome command IsCommand) }
     {
         let after = last_name(alloc, &self.place.below)?;
         match self.around(alloc)? {
             Some(around) => Ok(Some(Command::List {
-                path: around.path,
+                path: for_command(&around.path)?,
                 after,
             })),
             None => Ok(None),
@@ -363,10 +366,21 @@ fn next_place(
     }
 }
 
+// A path that is copied, as one for a command.
+fn for_command(path: &Path) -> Result<Path, AllocError>
+    ensures copy { IfOk result (λ copy. copy ≡ path.now) }
+    ensures short { IsShortPath path.now }
+{
+    let _text = path.as_bytes();
+    path.clone()
+}
+
 // The last name of a path.
 fn last_name(alloc: Global, path: &Path) -> Result<Option<Name>, AllocError>
-    ensures { IfOk result (λ found. found ≡ last_name path.now) }
+    ensures found { IfOk result (λ found. found ≡ last_name path.now) }
+    ensures name { IfOk result IsAfter }
 {
+    let _text = path.as_bytes();
     let mut names = path.names(alloc)?;
     Ok(names.pop())
 }

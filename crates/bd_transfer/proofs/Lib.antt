@@ -1,0 +1,4 @@
+pub mod Asked
+pub mod Trees
+pub mod Gone
+pub mod Arriving
