@@ -93,10 +93,11 @@ def du(session, given):
 
       own     bytes of keys, values and what waits, which nothing else shares
       shared  bytes that others share, as clones do
-      back    bytes of the slots that removing it gives back, with a reclaim after it, but for a few; with a `-`
-              where that takes slots, since what others share is copied for it. A node that has something of a
-              neighbour isn't given back, nor one that what others share still names. It is looked for at the 100
-              largest paths that are told, and `?` stands for the others
+      back    bytes of the slots that removing it gives back, as the program does it: with a `reclaim` after it, and
+              beside what one before it gives back. With a `-` it takes slots, since what others share is copied for it,
+              or what waits in nodes goes down with it. A node that has something of a neighbour isn't given back, nor
+              one that what others share still names. On an image with few free slots a `reclaim` may do less. It is
+              looked for at the 1,000 largest paths that are told, and `?` stands for the others
       path    `(reclaim)` stands for what a reclaim would give back now, and `(held)` for slots of nodes that no path
               asks, and that are kept since nodes that are asked name them
 

@@ -17,6 +17,8 @@ SLOT = SLOT_BLOCKS * BLOCK
 LOG_HALVES, LOG_BLOCKS = (4, 68), 64
 LEAST_SLOTS, MOST_SLOTS, MOST_TABLE_SLOTS, MOST_LEVELS = 24, 65_536, 25, 1_000
 LEAF_BYTES, BUFFER_BYTES = 40_960, 32_768
+# What a table has before its nodes, and of each.
+TABLE_BYTES, ENTRY_BYTES = 32, 24
 # As many nodes stay in memory as were last asked for.
 MOST_IN_MEMORY = 2_048
 # What a message or an entry counts beside its own bytes.
@@ -258,6 +260,25 @@ def entries(data, at, count):
     return found
 
 
+def has_entry(data, lo, hi):
+    """Whether the first bytes of a leaf have an entry from a key on, up to another one."""
+    at, left = 16, int.from_bytes(data[8:12], "big") if data[:8] == b"BDN1\0\0\0\0" else 0
+    while left:
+        size = int.from_bytes(data[at : at + 2], "big")
+        key, last = data[at + 2 : at + 2 + size], at + 4 + size
+        if last > len(data) or not is_before(key, hi):
+            return False
+        if key >= lo:
+            return True
+        at, left = last + int.from_bytes(data[last - 2 : last], "big"), left - 1
+    return False
+
+
+def table_slots(count):
+    """How many slots a table of so many nodes takes."""
+    return -(-(TABLE_BYTES + ENTRY_BYTES * count) // SLOT)
+
+
 def edge(data):
     return Edge(data.prefixed(), data.number(2), data.prefixed(), data.number(8), data.number(4))
 
@@ -393,7 +414,7 @@ class Image:
         block = self.block_of(self.live.table[0])
         data = Bytes(b"".join(self.bytes_at(self.block_of(slot), SLOT_BLOCKS) for slot in self.live.table))
         magic, count, self.next, self.root = data.take(8), data.number(8), data.number(8), data.number(8)
-        if magic != b"BDTABLE1" or count * 24 + 32 > len(data.data):
+        if magic != b"BDTABLE1" or count * ENTRY_BYTES + TABLE_BYTES > len(data.data):
             raise self._damaged(block, "has no table")
         found = {data.number(8): Kept(data.number(8), data.number(4), data.number(4)) for _ in range(count)}
         if self.root not in found or any(it.slot >= self.live.slots for it in found.values()):
@@ -429,11 +450,20 @@ class Image:
         try:
             node = Node(self.slot_of(id_))
         except Ended:
-            raise self._damaged(self.block_of(kept.slot), "is no node's") from None
+            raise self.no_node(id_) from None
         lower = all(name in self.table and self.table[name].level < node.level for name in node.names)
         if node.level != kept.level or node.level > MOST_LEVELS or not lower:
             raise self._damaged(self.block_of(kept.slot), "is another node's")
         return node
+
+    def has_entry(self, id_, lo, hi):
+        """Whether a leaf has an entry from a key on, up to another one: read no further than it takes to know."""
+        block = self.block_of(self.table[id_].slot)
+        return has_entry(self.bytes_at(block), lo, hi) or bool(self.node(id_).run(lo, hi))
+
+    def no_node(self, id_):
+        """The damage of a slot that has no node."""
+        return self._damaged(self.block_of(self.table[id_].slot), "is no node's")
 
     def whole(self, prefix=b""):
         """The part that answers for all keys that begin with a prefix, as keys without it."""

@@ -10,6 +10,8 @@ REFUSALS = {
 (NOT_FOUND, EXISTS, NO_PARENT, NOT_DIR, IS_DIR, INSIDE, ROOT, TOO_BIG, BAD_PATH, BAD_LINE) = range(1, 11)
 
 GREATEST_FILE = 1 << 30
+# A file of at most so many bytes is copied and moved without a walk.
+SMALL_FILE = 1_024
 ROOT_PATH = ()
 
 
@@ -139,6 +141,19 @@ class PlainMap:
         self.want(a)
         self.want_new(b)
         self.entries, self.modes = (of | self.copied(a, b, of) for of in (self.entries, self.modes))
+
+    def is_small(self, path):
+        """Whether a path is a file's that is copied and moved without a walk."""
+        entry = self.entries[path]
+        return entry is not None and len(entry) <= SMALL_FILE
+
+    def walks(self, line):
+        """Whether a line, which is about to be accepted, is a clone or a rename of which `walk` tells."""
+        verb, *words = line.split(b" ")
+        if verb not in (b"clone", b"rename"):
+            return False
+        a, b = map(read_path, words)
+        return not self.is_small(a) or b in self.entries and not self.is_small(b)
 
     def chmod(self, p, mode):
         mode = read_mode(mode)

@@ -5,7 +5,7 @@ from bisect import bisect_left, bisect_right
 from functools import lru_cache
 from typing import NamedTuple
 
-from nodes import BASE, SLOT, after, key_of, path_of
+from nodes import BASE, SLOT, after, key_of, path_of, table_slots
 from rehearsal import Rehearsal
 from session import Failed
 
@@ -13,8 +13,8 @@ from session import Failed
 END = b"\xff" * 1_024
 # As many nodes' items stay in memory as were last looked at.
 MOST_ITEMS = 256
-# The removals of as many paths are rehearsed, those of the largest.
-MOST_REHEARSED = 100
+# The removals of as many paths at most are rehearsed, those of the largest.
+MOST_REHEARSED = 1_000
 # As many ways to nodes are looked at before it is given up.
 MOST_WAYS = 1_000_000
 
@@ -174,18 +174,18 @@ class Usage:
             label.above.own += label.own
             label.above.slots += label.slots
 
-
     def _rehearse(self, progress):
-        """Finds what a reclaim gives back now, which nodes that nothing asks it keeps, and how much more it gives back
-        after a removal of each path."""
+        """Finds what a reclaim gives back now, which nodes that nothing asks it keeps, and how much more another one
+        gives back after a removal of each path."""
+        nodes = len(self.image.table)
         now = Rehearsal(self.image).run()
-        self.back = len(self.image.table) - now.size
-        self.held = max(0, len(self.image.table) - len(self.tops) - max(0, self.back))
-        asked = [it for it in self.labels.values() if it.slots or it.is_dir and it.shared]
-        asked.sort(key=lambda it: (it.slots, it.own, it.shared), reverse=True)
+        before = Rehearsal(self.image, now).make_room()
+        self.back = nodes + table_slots(nodes) - now.slots
+        self.held = max(0, min(nodes, now.size) - len(self.tops))
+        asked = sorted(self.labels.values(), key=lambda it: (it.slots, it.own, it.shared), reverse=True)
         for done, label in enumerate(asked):
             if done < MOST_REHEARSED:
-                label.back = now.size - Rehearsal(self.image, now).remove(key_of(label.path)).run().size
+                label.back = now.slots - Rehearsal(self.image, before).remove(key_of(label.path)).run().slots
             else:
                 label.back = None
             if progress:

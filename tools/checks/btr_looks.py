@@ -249,34 +249,51 @@ def du_cases(program, room, report):
         told, before = taken(bench, "-s", path)[path].back, used(bench)
         bench.lines(f"remove {path}", "reclaim")
         back = before - used(bench)
-        report(f"du: removing {path}", abs(back - told) <= 2, f"{told} told, {back} given back")
+        report(f"du: removing {path}", back == told, f"{told} told, {back} given back")
     left, alone = taken(bench, "/"), used(bench) * SLOT - 3_000_000
     report("du: what is left", list(left)[:2] == ["/", "/c"], f"{left}")
     report("du: what is held", "(held)" not in left or left["(held)"].own > alone, f"{left} {alone}")
 
 
 def random_removals(program, room, report):
-    """What du tells of directories of an image that was changed at random is what `df` tells, but for some slots."""
+    """What du tells of directories of an image that was changed at random is what `df` tells."""
     rng, bench = random.Random(3), Bench(program, room / "removals", report)
     files = [f"/a/big{number}" for number in range(20)]
     bench.lines(*made(rng, "/a", 250), *[f"create {path}" for path in files], "checkpoint", "clone /a /b")
     changer = Changer(bench, rng)
     bench.lines(*changer.round(LINES), *[line for path in files for line in large_file(rng, path)], "clone /a /c",
                 *changer.round(LINES // 4), "reclaim")
-    image, kept = Path(bench.image), Path(bench.image).read_bytes()
     found = taken(bench, "-d2", "/")
     paths = [path for path, it in found.items() if it.back and path.startswith("/") and len(path) > 3]
-    paths = rng.sample(paths, min(8, len(paths))) + ["/a", "/b", "/c"]
-    before = used(bench)
-    for path in paths:
-        bench.lines(f"remove {path}", "reclaim")
-        back, told = before - used(bench), found[path].back
-        report(f"du: removing {path}", abs(back - told) <= 4 + abs(back) // 5, f"{told} told, {back} given back")
-        image.write_bytes(kept)
+    removals(bench, rng.sample(paths, min(8, len(paths))) + ["/a", "/b", "/c"], found, "of random ones")
 
 
 def large_file(rng, path):
     return [f"write {path} {2_048 * at} {rng.randbytes(2_000).hex()}" for at in range(30)]
+
+
+def many_paths(program, room, report):
+    """It is looked for at the 1,000 largest of many directories what removing them gives back."""
+    rng, bench = random.Random(8), Bench(program, room / "many", report, slots=1_024)
+    count = 100 if is_slow(program) else 1_005
+    bench.lines("mkdir /t", *[line for number in range(count) for line in [
+        f"mkdir /t/d{number}", f"create /t/d{number}/f",
+        f"write /t/d{number}/f 0 {rng.randbytes(rng.randrange(1, 2_000)).hex()}"]], "clone /t/d7 /t/d7/d", "reclaim")
+    found = taken(bench, "-d2", "/")
+    unknown = sum(it.back is None for it in found.values())
+    report("du: many paths", (len(found), unknown) == (count + 2, max(0, count + 2 - 1_000)), f"{len(found)} {unknown}")
+    known = [path for path, it in found.items() if it.back is not None and path != "/"]
+    removals(bench, rng.sample(known, 10), found, "of many")
+
+
+def removals(bench, paths, found, label):
+    """Removing each path, with the image as it was, gives back what was told of it."""
+    image, kept, before = Path(bench.image), Path(bench.image).read_bytes(), used(bench)
+    for path in paths:
+        bench.lines(f"remove {path}", "reclaim")
+        back, told = before - used(bench), found[path].back
+        bench.report(f"du: removing {label} {path}", back == told, f"{told} told, {back} given back")
+        image.write_bytes(kept)
 
 
 def wasted(program, room, report):
@@ -287,7 +304,7 @@ def wasted(program, room, report):
     bench.lines("reclaim")
     back = before - used(bench)
     told = found["(reclaim)"].back if "(reclaim)" in found else 0
-    report("what a reclaim gives back", back > 3 and abs(told - back) <= 2, f"{told} told, {back} given back")
+    report("what a reclaim gives back", back > 3 and told == back, f"{told} told, {back} given back")
 
 
 def sharing(program, room, report):
@@ -394,6 +411,7 @@ def check(program, room, report):
         random_changes(program, room, report, seed)
     du_cases(program, room, report)
     random_removals(program, room, report)
+    many_paths(program, room, report)
     wasted(program, room, report)
     sharing(program, room, report)
     large(program, room, report)

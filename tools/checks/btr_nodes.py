@@ -1,17 +1,23 @@
 """Images of random nodes, read by tools/nodes.py, beside what each node has at each key by the definition: an edge's
-child at the changed key, and then the messages that the edge hasn't seen, one after the other."""
+child at the changed key, and then the messages that the edge hasn't seen, one after the other. And what a `reclaim` of
+the program makes of such images, beside what it is to be as tools/rehearsal.py has it."""
 import itertools
 import random
 from collections import Counter
 
+from calling import is_slow, script
 from changes import Differences
-from nodes import BLOCK, CUT, DELETE, FIRST_SLOT, GOTO, PATCH, PUT, SLOT, SLOT_BLOCKS, Damaged, Image, Scan, after
+from nodes import (BLOCK, BUFFER_BYTES, CUT, DELETE, FIRST_SLOT, GOTO, LEAF_BYTES, PATCH, PUT, SLOT, SLOT_BLOCKS,
+                   Damaged, Edge, Image, Message, Scan, after)
 from rehearsal import Rehearsal
 from session import Failed
+from shapes import MOST_EDGES, MOST_KEY, Shape, common_size, entry_size, swept
 from sharing import Sharing, Usage
 
 BYTES = (0, 1, 255)
-SLOTS = 40
+SLOTS, MANY_SLOTS = 40, 400
+# What keys of large nodes are made of.
+PIECES = (b"a", b"b", b"c" * 170, b"d" * 60, b"e" * 250, b"f", b"\0", b"\xff", b"\xff" * 40)
 KEYS = [bytes(key) for size in range(5) for key in itertools.product(BYTES, repeat=size)]
 
 
@@ -133,11 +139,11 @@ def node_bytes(level, node):
         for pivot, lift, source, child, seen in edges) + b"".join(message_bytes(*it) for it in messages)
 
 
-def write_image(path, plain):
+def write_image(path, plain, slots=SLOTS):
     """An image of these nodes: node i stands in slot 2 i, and the table in slot 1."""
     ids, named = sorted(plain.nodes), plain.named()
     table = b"BDTABLE1" + numbers(8, len(ids), plain.root + 1, plain.root)
-    parts = {0: b"\1", 1: b"BDSUPER1" + numbers(4, 2, SLOTS) + numbers(8, 7, 0) + numbers(4, 1, 1)}
+    parts = {0: b"\1", 1: b"BDSUPER1" + numbers(4, 2, slots) + numbers(8, 7, 0) + numbers(4, 1, 1)}
     for id_ in ids:
         table += numbers(8, id_, named[id_]) + numbers(4, 2 * id_, plain.levels[id_])
         parts[FIRST_SLOT + 2 * id_ * SLOT_BLOCKS] = node_bytes(plain.levels[id_], plain.nodes[id_])
@@ -146,7 +152,7 @@ def write_image(path, plain):
         for block, data in parts.items():
             file.seek(block * BLOCK)
             file.write(data)
-        file.truncate(FIRST_SLOT * BLOCK + SLOTS * SLOT)
+        file.truncate(FIRST_SLOT * BLOCK + slots * SLOT)
 
 
 def drained(of):
@@ -187,11 +193,153 @@ def check_differences(image, plain, report, label, rng):
     report(f"{label}: what differs below {a!r} and {b!r}", right, f"{wrong[:3]} {missing[:3]}")
 
 
+# ---- what a reclaim makes of nodes
+
+class Large(Plain):
+    """Random nodes with long keys, much that waits, and leaves that are nearly full, many of which are named once."""
+
+    def __init__(self, rng):
+        self.unnamed = []
+        super().__init__(rng)
+
+    def add(self, rng, id_, level):
+        self.levels[id_] = level
+        self.nodes[id_] = self.large(rng, level) if level else dict(large_entries(rng))
+        self.unnamed.append(id_)
+
+    def large(self, rng, level):
+        """Edges and messages of a node."""
+        lower = [it for it, of in self.levels.items() if of < level]
+        rng.shuffle(lower)
+        pivots = [b"", *sorted({large_key(rng) for _ in range(rng.choice([2, 6, 15, 15]))} - {b""})][:MOST_EDGES]
+        messages = fitting((large_message(rng, lower) for _ in range(rng.randrange(80))), size_of,
+                           rng.choice([500, 17_000, BUFFER_BYTES]))
+        edges = []
+        for pivot, hi in zip(pivots, pivots[1:] + [None]):
+            child = self.child(rng, level, lower)
+            source = large_key(rng) if child and rng.random() < 0.2 else b""
+            seen = rng.choice([0, 0, rng.randint(0, len(messages))])
+            edges.append((pivot, rng.choice([0, common_size(pivot, hi)]), source, child, seen))
+        return edges, messages
+
+    def child(self, rng, level, lower):
+        alone = [it for it in self.unnamed if self.levels[it] < level]
+        child = rng.choice(alone) if alone and rng.random() < 0.7 else rng.choice(lower + [0])
+        if child in self.unnamed:
+            self.unnamed.remove(child)
+        return child
+
+
+def large_key(rng, most=MOST_KEY):
+    key = b"".join(rng.choices(PIECES, k=rng.randrange(5))) + rng.randbytes(rng.choice([0, 0, 1]))
+    return key if len(key) <= most else large_key(rng, most)
+
+
+def large_value(rng):
+    return rng.randbytes(1) * rng.choice([1, 5, 300, 1_000])
+
+
+def large_entries(rng):
+    many = ((large_key(rng), large_value(rng)) for _ in range(rng.choice([0, 5, 200, 200])))
+    return fitting(dict(many).items(), entry_size, LEAF_BYTES)
+
+
+def large_message(rng, lower):
+    key, value = large_key(rng), large_value(rng)
+    made = [(PUT, key, value), (PUT, key, value), (PATCH, key, rng.randrange(25), value), (DELETE, key),
+            (CUT, key, large_key(rng, MOST_KEY - len(key)))]
+    made += [(GOTO, key, large_key(rng), child) for child in lower[:1]]
+    return rng.choice(made)
+
+
+def size_of(message):
+    return message_of(*message).size
+
+
+def fitting(parts, size, most):
+    """The first of these, up to so many bytes."""
+    found, left = [], most
+    for it in parts:
+        left -= size(it)
+        if left < 0:
+            break
+        found.append(it)
+    return found
+
+
+def message_of(tag, key, *rest):
+    if tag == PATCH:
+        return Message(tag, key, rest[1], rest[0])
+    return Message(tag, key, rest[0], 0, rest[1]) if tag == GOTO else Message(tag, key, *rest)
+
+
+def parts_of(message):
+    """What it was before `message_of`."""
+    more = {PATCH: (message.offset, message.data), GOTO: (message.data, message.child), DELETE: ()}
+    return message.tag, message.key, *more.get(message.tag, (message.data,))
+
+
+def without_spare_messages(plain):
+    """Leaves out messages that wait for no edge, which no node of the program has."""
+    for id_, node in plain.nodes.items():
+        if plain.levels[id_]:
+            shape = swept(Shape(plain.levels[id_], [Edge(*it) for it in node[0]], [message_of(*it) for it in node[1]]))
+            plain.nodes[id_] = [tuple(it) for it in shape.edges], [parts_of(it) for it in shape.messages]
+
+
+def without_spare_nodes(plain):
+    """Leaves out nodes that nothing names, which no image of the program has."""
+    while spare := plain.nodes.keys() - (+plain.named()).keys():
+        for id_ in spare:
+            del plain.nodes[id_], plain.levels[id_]
+
+
+def state(nodes, ids, node):
+    """All that is known of nodes: the root, the next id, and of each how often it is named and what it has."""
+    found = {id_: node(id_) for id_ in ids if nodes.count(id_) > 0}
+    return nodes.root, nodes.next, {id_: (nodes.count(id_), it.level, list(it.edges), list(it.messages),
+                                          list(it.entries)) for id_, it in found.items()}
+
+
+def check_reclaim(program, path, plain, report, label):
+    """A rehearsal has the nodes that the program has after a `reclaim`."""
+    without_spare_messages(plain)
+    without_spare_nodes(plain)
+    write_image(path, plain, MANY_SLOTS)
+    with Image(path) as image:
+        rehearsal = Rehearsal(image).run()
+        told = state(rehearsal, rehearsal.ids(), rehearsal.shape)
+    replies = script(program, path, ["reclaim"])
+    report(f"{label}: a reclaim", replies == ["ok"], f"{replies}")
+    with Image(path) as image:
+        nodes = Rehearsal(image)
+        made = state(nodes, image.table, image.node)
+        wrong = sorted(id_ for id_ in {*told[2], *made[2]} if told[2].get(id_) != made[2].get(id_))
+        report(f"{label}: what a reclaim leaves", told == made, f"{told[:2]} {made[:2]} nodes {wrong}")
+        slots = rehearsal.slots, nodes.slots, taken(program, path)
+        report(f"{label}: what a reclaim takes", len(set(slots)) == 1, f"{slots}")
+
+
+def taken(program, path):
+    """How many slots the last checkpoint has taken."""
+    _, _, free, _, slots = script(program, path, ["df"])[0].split(" ")
+    return int(slots) - int(free)
+
+
+def reclaims(program, room, report):
+    for kind in (Plain, Large):
+        for seed in range(10 if is_slow(program) else 150):
+            plain = kind(random.Random(seed))
+            check_reclaim(program, room / "reclaimed", plain, report, f"{kind.__name__}, seed {seed}")
+
+
 def check(program, room, report):
+    reclaims(program, room, report)
     path = room / "image"
     for seed in range(150):
         rng = random.Random(seed)
         plain = Plain(rng)
+        without_spare_messages(plain)
         write_image(path, plain)
         with Image(path) as image:
             check_values(image, plain, report, f"seed {seed}")

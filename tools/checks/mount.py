@@ -88,6 +88,7 @@ def ends(program, room, report):
         time.sleep(0.3)
         mount.kill(with_program=False)
     dead(program, room, report)
+    kept(program, room, report)
     with Mount(program, room, "ends") as mount:
         report("what the program has is kept where the mount is killed", read(mount.path / "d") == b"given")
         with open(mount.path / "d", "rb"):
@@ -109,6 +110,24 @@ def dead(program, room, report):
         report("what a killed mount left is told", is_told, str(done))
         well(report, "what a killed mount left is unmounted", tool("mount", "-u", folder))
     report("it isn't mounted any more", not os.path.ismount(folder))
+
+
+def kept(program, room, report):
+    """What was done before a fsync of a file or a directory is there after a mount that was killed."""
+    for name in ("file", "."):
+        with Mount(program, room, "kept") as mount:
+            write(mount.path / "file", b"bytes of " + name.encode())
+            os.mkdir(mount.path / f"before-{len(name)}")
+            handle = os.open(mount.path / name, os.O_RDONLY)
+            os.fsync(handle)
+            os.close(handle)
+            mount.process.kill()
+            mount.process.wait()
+            mount.wait()
+            well(report, "what a killed mount left is unmounted", tool("mount", "-u", mount.path))
+        with Mount(program, room, "kept") as mount:
+            found = read(mount.path / "file"), os.path.isdir(mount.path / f"before-{len(name)}")
+            report(f"a fsync of {name} keeps all before it", found == (b"bytes of " + name.encode(), True), f"{found}")
 
 
 def faults(program, room, report):

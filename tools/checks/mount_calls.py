@@ -1,5 +1,6 @@
 """Calls of the system on a mounted image beside the same calls in a folder of the host: random ones, and each error by
 its name."""
+import ctypes
 import mmap
 import os
 import random
@@ -16,6 +17,9 @@ LINK_TARGETS = [b"a", b"b", b"c/a", b"d/", b"missing", b"e", b"./a", b"x" * 300]
 GREATEST_HANDLES = 12
 # Renames take slots that aren't given back soon.
 SLOTS = 65_536
+LIBRARY = ctypes.CDLL(None, use_errno=True)
+AT_WORKING = -100
+RENAME_NOREPLACE, RENAME_EXCHANGE, RENAME_WHITEOUT = 1, 2, 4
 
 
 class Pair:
@@ -274,6 +278,8 @@ ERRORS = [
     ("rename into itself", "EINVAL", lambda r: os.rename(r + "/full", r + "/full/a")),
     ("rename to itself", None, lambda r: os.rename(r + "/file", r + "/file")),
     ("rename to a long name", "ENAMETOOLONG", lambda r: os.rename(r + "/file", r + "/" + "x" * 256)),
+    ("rename that replaces nothing, to what is there", "EEXIST",
+     lambda r: renamed(r + "/file", r + "/full/file", RENAME_NOREPLACE)),
     ("rename to another system", "EXDEV", lambda r: os.rename(r + "/file", "/proc/self/file")),
     ("symlink over what is there", "EEXIST", lambda r: os.symlink("a", r + "/file")),
     ("symlink to nothing", "ENOENT", lambda r: os.symlink("", r + "/empty")),
@@ -294,6 +300,9 @@ ERRORS = [
 
 # What is otherwise than on the host, as docs/TOOLS.md tells.
 OWN_ERRORS = [
+    ("an exchange of two names", "EINVAL", lambda r: renamed(r + "/file", r + "/full/file", RENAME_EXCHANGE)),
+    ("an exchange with a folder", "EINVAL", lambda r: renamed(r + "/file", r + "/folder", RENAME_EXCHANGE)),
+    ("a rename that leaves a hole for lower layers", "EINVAL", lambda r: renamed(r + "/file", r + "/a", RENAME_WHITEOUT)),
     ("a second name of a file", "EPERM", lambda r: os.link(r + "/file", r + "/second")),
     ("a pipe", "EPERM", lambda r: os.mkfifo(r + "/pipe")),
     ("a name of the tools", "EPERM", lambda r: os.mkdir(r + "/.betr-mine")),
@@ -310,6 +319,13 @@ OWN_ERRORS = [
     ("a path of more than 512 bytes", "ENAMETOOLONG", lambda r: deep(r)),
     ("removing what is mounted", "EBUSY", lambda r: os.rmdir(r)),
 ]
+
+
+def renamed(old, new, flags):
+    """A rename with flags, which Python has no call for."""
+    if LIBRARY.renameat2(AT_WORKING, os.fsencode(old), AT_WORKING, os.fsencode(new), flags):
+        number = ctypes.get_errno()
+        raise OSError(number, os.strerror(number))
 
 
 def on_open(path, flags, action):
