@@ -59,7 +59,7 @@ def shell(session, given):
 
 # Options with a name of their own that aren't told by a word, by what they are called in the code.
 FLAGS = {
-    "-a": "all", "-e": "ends", "-f": "force", "-h": "human", "-l": "long", "-p": "parents", "-q": "quiet",
+    "-a": "all", "-e": "ends", "-f": "force", "-h": "human", "-l": "long", "-n": "nodes", "-p": "parents", "-q": "quiet",
     "-R": "below", "-r": "recursive", "-s": "alone"}
 DEPTHS = {"-d": "depth", "-L": "depth"}
 
@@ -76,7 +76,7 @@ VERBS = {
     "cp": (verbs.cp, "", [("source", None, path), ("to", None, path)]),
     "mv": (verbs.mv, "", [("source", None, path), ("to", None, path)]),
     "df": (verbs.df, "-h", []),
-    "du": (looks.du, "-a -d -h -s --read-only", [("paths", "*", path)]),
+    "du": (looks.du, "-a -d -h -n -s --read-only", [("paths", "*", path)]),
     "shares": (looks.shares, "-h --read-only", [("path", "?", path)]),
     "diff": (looks.diff, "-a -q --brief --read-only", [("source", None, path), ("to", None, path)]),
     "reclaim": (verbs.reclaim, "", []),

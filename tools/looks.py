@@ -87,7 +87,7 @@ def paths_below(image, path, depth, given):
 
 
 def du(session, given):
-    """usage: tools/btr du [-as] [-d DEPTH] [-h] [--read-only] IMAGE [PATH ..]
+    """usage: tools/btr du [-ans] [-d DEPTH] [-h] [--read-only] IMAGE [PATH ..]
 
     Prints what directories of an image take, at most DEPTH names deep (1), and without PATH those of `/`:
 
@@ -102,6 +102,7 @@ def du(session, given):
               asks, and that are kept since nodes that are asked name them
 
       -a  files too
+      -n  two numbers more before the path: the nodes that it alone asks, and those that others ask too
       -s  no directories below
       -h  bytes as 1.5K and 3M
       --read-only  makes no checkpoint of what waits in the log before, and looks at the last one
@@ -116,14 +117,18 @@ def du(session, given):
 
 
 def print_usage(usage, path, given):
-    told = [("own", "shared", "back", "path")]
+    def row(own, shared, back, path, *nodes):
+        return (own, shared, back, *(nodes if given.nodes else ()), path)
+
+    told = [row("own", "shared", "back", "path", "nodes", "others")]
     for it in usage.labels.values():
         back = "?" if it.back is None else sized(it.back * SLOT, given.human)
-        told.append((sized(it.own, given.human), sized(it.shared, given.human), back, it.path))
+        told.append(row(sized(it.own, given.human), sized(it.shared, given.human), back, it.path,
+                        str(it.slots), str(it.joint)))
     if path == b"/" and usage.back:
-        told.append(("0", "0", sized(usage.back * SLOT, given.human), "(reclaim)"))
+        told.append(row("0", "0", sized(usage.back * SLOT, given.human), "(reclaim)", "0", "0"))
     if path == b"/" and usage.held:
-        told.append((sized(usage.held * SLOT, given.human), "0", "0", "(held)"))
+        told.append(row(sized(usage.held * SLOT, given.human), "0", "0", "(held)", str(usage.held), "0"))
     print_rows(told)
 
 

@@ -79,13 +79,13 @@ def items(node):
 # ---- what each path takes
 
 class Label:
-    """A path that is told, or what is beside all of these: the bytes of its own and those that it shares, the slots of
-    nodes that nothing else asks, and those that removing it gives back."""
+    """A path that is told, or what is beside all of these: the bytes of its own and those that it shares, the nodes that
+    it alone asks and those that others ask too, and the slots that removing it gives back."""
 
     def __init__(self, path, above, is_dir=True):
         self.path, self.above, self.is_dir = path, above, is_dir
         self.depth = 0 if above is None else above.depth + 1
-        self.own = self.shared = self.slots = self.back = 0
+        self.own = self.shared = self.slots = self.joint = self.back = 0
 
     def line(self):
         """It and those above it, itself first."""
@@ -131,7 +131,7 @@ class Usage:
             above = next((self.labels[it] for it in ancestors(path) if it in self.labels), self.beside)
             self.labels[path] = Label(path, above, is_dir)
         self.items = lru_cache(MOST_ITEMS)(lambda id_: Items(image.node(id_)))
-        self.tops, self.totals, self.runs = {}, {}, {}
+        self.tops, self.asking, self.totals, self.runs = {}, {}, {}, {}
         found = regions(self.labels, self.beside)
         self._go([it for it in found if it[2] is not self.beside], progress)
         self.known = set(self.tops)
@@ -151,6 +151,7 @@ class Usage:
         that it alone asks isn't looked at."""
         top = self.tops.get(id_, label)
         self.tops[id_] = label if top is label else common([top, label])
+        self.asking.setdefault(id_, set()).add(label)
         if label is self.beside and id_ not in self.known:
             return
         found = self.items(id_)
@@ -161,8 +162,10 @@ class Usage:
 
     def _count(self):
         """Counts each node, and what stands in it, to those for whose keys it is asked."""
-        for label in self.tops.values():
-            label.slots += 1
+        for id_, top in self.tops.items():
+            top.slots += 1
+            for label in {it for label in self.asking[id_] for it in label.line() if it.depth > top.depth}:
+                label.joint += 1
         for id_, runs in self.runs.items():
             for first, last, labels in told(runs):
                 size = self.totals[id_][last] - self.totals[id_][first]

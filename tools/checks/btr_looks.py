@@ -242,6 +242,14 @@ def du_cases(program, room, report):
     report("du: paths", list(found) == ["/"] + [f"/{top}" for top in "abcdeg"], f"{list(found)}")
     report("du: a clone has nothing of its own", found["/d"].own < 100 and found["/d"].back <= 1, f"{found['/d']}")
     report("du: what clones share", all(found[f"/{top}"].shared > 500_000 for top in "ad"), f"{found}")
+    rows = [line.split() for line in bench.call("du", "-n").out.splitlines()]
+    nodes = {row[-1]: (int(row[3]), int(row[4])) for row in rows[1:]}
+    report("du -n: what it says beside the nodes is the same", [row[:3] + row[5:] for row in rows] == [
+        line.split() for line in bench.call("du").out.splitlines()], f"{rows}")
+    report("du -n: all nodes are the root directory's", nodes["/"][1] == 0 and nodes["/"][0] > nodes["/b"][0] > 5, f"{nodes}")
+    report("du -n: clones ask the same nodes", all(nodes[f"/{top}"][1] > 20 > 2 > nodes[f"/{top}"][0] for top in "adeg"),
+           f"{nodes}")
+    report("du -n: what is alone asks few that others ask", nodes["/b"][0] > 20 > 10 > nodes["/b"][1], f"{nodes}")
     alone = {path: taken(bench, "-s", path)[path] for path in found}
     report("du: a path by itself", alone == found, f"{alone} {found}")
     report("du: what is alone", found["/b"].shared == 0 and found["/b"].own > 600_000, f"{found['/b']}")
