@@ -254,6 +254,7 @@ impl<D: Device> Volume<D> {
             Reclaim::Shrink { .. } | Reclaim::Push { .. } => true,
             Reclaim::Drop { .. }
             | Reclaim::Redirect { .. }
+            | Reclaim::Pass { .. }
             | Reclaim::Bare { .. }
             | Reclaim::Trim { .. } => self.engine.edge_need() <= self.engine.free(),
         }
@@ -269,6 +270,7 @@ fn pushes_after(pushes: u64, change: &Reclaim) -> u64
         Reclaim::Shrink { .. }
         | Reclaim::Drop { .. }
         | Reclaim::Redirect { .. }
+        | Reclaim::Pass { .. }
         | Reclaim::Bare { .. }
         | Reclaim::Trim { .. } => pushes,
     }
