@@ -190,8 +190,9 @@ fn finish<D: Device + Drop, K: Sink>(
 /// Writes what is at a path and below it as a stream. At the end the sink passes on what was
 /// written; of a whole stream all is made durable then, which makes no call where nothing waits,
 /// and that is acknowledged. Where nothing is at the path nothing is written, and where the next
-/// entry's path is too long the stream ends before it. A fault of the device, of the image, of
-/// memory or of a counter comes before the reply to a question.
+/// entry's path is too long the stream ends before it. A fault of the image or of a counter comes
+/// before the reply to a question; one of the device or of memory there too, or after the last one,
+/// of memory also where a reply is taken; and one of the sink where it is written to or passes on.
 pub fn export_subtree<D: Device + Drop, K: Sink>(
     alloc: Global,
     shell: &mut Shell<D>,
