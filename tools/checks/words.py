@@ -24,6 +24,7 @@ WRONG = {
     "rows": [[], ["nothing"]],
     "streams": [["a", "b"]],
     "unload": [[], ["img"], ["img", "/"], ["img", "/", "out", "more"]],
+    "ways": [["more"], ["--list", "more"]],
 }
 
 MISSING, FOLDER = "no such file", "is a directory"
