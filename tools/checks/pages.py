@@ -1,7 +1,16 @@
-"""The pages of docs/ are what the tools make of the sources: the picture of the ways through the crates."""
+"""The pages of docs/ go with the sources: the picture of the ways through the crates is what its tool makes of them, and
+each crate has its line. No paragraph of ARCHITECTURE.md is long."""
+import re
 import shutil
 
+import sources
 from calling import TOP, tool
+
+MOST_WORDS = 120
+
+
+def page(name):
+    return (TOP / "docs" / name).read_text()
 
 
 def sources_in(room):
@@ -16,7 +25,7 @@ def sources_in(room):
 def pictured(room, report):
     """docs/ways.svg is what `ways` makes, and `ways` makes none where a call of it isn't in the sources."""
     ended = tool("ways")
-    same = ended.status == 0 and ended.out == (TOP / "docs" / "ways.svg").read_text()
+    same = ended.status == 0 and ended.out == page("ways.svg")
     report("docs/ways.svg", same, f"`tools/ways > docs/ways.svg` makes another one: {ended.status} {ended.err}")
     top = sources_in(room)
     walk = top / "crates" / "bd_graft" / "src" / "walking.rt"
@@ -31,5 +40,27 @@ def pictured(room, report):
     report("ways, without a crate", (ended.status, ended.out, ended.err) == (1, "", told), str(ended))
 
 
+def layers(report):
+    """The table of the layers has a line for each crate of crates.txt, in its order and below its group."""
+    table = re.findall(r"^\| (?:\*\*(.+)\*\*|`(\w+)`) \|", page("ARCHITECTURE.md").partition("\n## The layers\n")[2]
+                       .partition("\n## ")[0], re.MULTILINE)
+    wanted, group = [], None
+    for crate in sources.crates().values():
+        if crate.group != group:
+            group = crate.group
+            wanted.append((group, ""))
+        wanted.append(("", crate.name))
+    other = sorted(set(table) ^ set(wanted)) or "another order"
+    report("ARCHITECTURE.md has each crate", table == wanted, f"not in both: {other}")
+
+
+def paragraphs(report):
+    """No paragraph, item or row of a table has more than so many words."""
+    long = [line[:60] for line in page("ARCHITECTURE.md").splitlines() if len(line.split()) > MOST_WORDS]
+    report("ARCHITECTURE.md has short paragraphs", not long, f"of more than {MOST_WORDS} words: {long}")
+
+
 def check(program, room, report):
     pictured(room, report)
+    layers(report)
+    paragraphs(report)
