@@ -71,6 +71,24 @@ def functions(name, top=TOP):
     return found
 
 
+# What a source file defines for other crates, what for its own alone, and what a file of definitions lets others cite.
+PUBLIC = re.compile(r"^pub (?:fn|struct|enum|trait|type|const) (\w+)", re.MULTILINE)
+PRIVATE = re.compile(r"^(?:pub\([a-z]+\) )?(?:fn|struct|enum|trait|type|const) (\w+)", re.MULTILINE)
+METHOD = re.compile(r"^ +(?:pub(?:\([a-z]+\))? )?fn (\w+)", re.MULTILINE)
+CITED = re.compile(r"^(?:(?:abbrev|unfoldable) )?pub (?:(?:record|data) )?([A-Za-z][\w']*) *[:({]", re.MULTILINE)
+
+
+def words(name, *more, top=TOP):
+    """The words that a crate defines for others: functions, types, traits, constants, and definitions that contracts
+    cite. More patterns find more in its sources."""
+    found = set()
+    for file in files(name, top):
+        found.update(*(pattern.findall(file.read_text()) for pattern in (PUBLIC, *more)))
+    for file in sorted((top / "crates" / name / "specs").glob("*.antt")):
+        found.update(CITED.findall(file.read_text()))
+    return found
+
+
 def names(text, function):
     """Whether a body names a function where it calls one."""
     return re.search(rf"\b{function}(::<[^;]*?>)?\(", text) is not None

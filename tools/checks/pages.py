@@ -1,12 +1,12 @@
-"""The pages of docs/ go with the sources: the picture of the ways through the crates is what its tool makes of them, and
-each crate has its line. No paragraph of ARCHITECTURE.md is long."""
+"""The pages of docs/ go with the sources: the picture of the ways through the crates is what its tool makes of them, each
+crate has its line, and each word of the glossary is defined. No paragraph of ARCHITECTURE.md is long."""
 import re
 import shutil
 
 import sources
 from calling import TOP, tool
 
-MOST_WORDS = 120
+MOST_WORDS, MOST_TERMS = 120, 60
 
 
 def page(name):
@@ -60,7 +60,19 @@ def paragraphs(report):
     report("ARCHITECTURE.md has short paragraphs", not long, f"of more than {MOST_WORDS} words: {long}")
 
 
+def glossary(report):
+    """The glossary has few words, by the alphabet, and what it names is defined in the crate that it names."""
+    rows = re.findall(r"^\| (.+?) \| .+ \| (`.+`) \|$", page("GLOSSARY.md"), re.MULTILINE)
+    terms = [term.strip("`").lower() for term, _ in rows]
+    report("GLOSSARY.md has at most 60 words", 0 < len(terms) <= MOST_TERMS, f"{len(terms)}")
+    report("GLOSSARY.md is by the alphabet", terms == sorted(terms), str(sorted(terms)))
+    named = [pair for _, where in rows for pair in re.findall(r"`(\w+)` `(\w+)`", where)]
+    lacking = [pair for pair in named if pair[1] not in sources.words(pair[0], sources.METHOD)]
+    report("GLOSSARY.md names definitions", len(named) >= len(rows) and not lacking, f"not defined: {lacking}")
+
+
 def check(program, room, report):
     pictured(room, report)
     layers(report)
     paragraphs(report)
+    glossary(report)
