@@ -1,12 +1,12 @@
-"""The pages of docs/ go with the sources: the picture of the ways through the crates is what its tool makes of them, each
-crate has its line, and each word of the glossary is defined. No paragraph of ARCHITECTURE.md is long."""
+"""The pages of docs/ go with the sources: the picture of the ways through the crates is what its tool makes of them,
+each crate has its line, and what the glossary and the promises name is there. The pages are short where they say so."""
 import re
 import shutil
 
 import sources
 from calling import TOP, tool
 
-MOST_WORDS, MOST_TERMS = 120, 60
+MOST_WORDS, MOST_TERMS, MOST_LINES = 120, 60, 60
 
 
 def page(name):
@@ -71,8 +71,22 @@ def glossary(report):
     report("GLOSSARY.md names definitions", len(named) >= len(rows) and not lacking, f"not defined: {lacking}")
 
 
+def promises(report):
+    """PROMISES.md begins with a page of sentences, and what they name in brackets stands in the sources."""
+    first = page("PROMISES.md").partition("\n## ")[0]
+    report("PROMISES.md begins with a page", len(first.splitlines()) <= MOST_LINES, f"{len(first.splitlines())} lines")
+    there = set()
+    for folder in sorted((TOP / "crates").glob("bd_*")):
+        there.add(folder.name)
+        for file in [*(folder / "src").rglob("*.rt"), *(folder / "specs").rglob("*.antt")]:
+            there.update(re.findall(r"\w+", file.read_text()))
+    named = {name for text in re.findall(r"\(([^()]*`[^()]*)\)", first) for name in re.findall(r"`(\w+)`", text)}
+    report("PROMISES.md names clauses", named and named <= there, f"not in the sources: {sorted(named - there)}")
+
+
 def check(program, room, report):
     pictured(room, report)
     layers(report)
     paragraphs(report)
     glossary(report)
+    promises(report)
