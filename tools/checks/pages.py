@@ -84,9 +84,35 @@ def promises(report):
     report("PROMISES.md names clauses", named and named <= there, f"not in the sources: {sorted(named - there)}")
 
 
+def named(room, report):
+    """`names` finds a word that a second crate defines, and counts it."""
+    top = room / "names"
+    files = {
+        "crates.txt": "# low\nbd_a:\nbd_b: bd_a\n# rows\nrows_a: bd_a\n",
+        "bd_a/src/lib.rt": "pub struct Box {\n    pub fn of(&self) -> u8\n}\nfn kept() {\n}\npub const MOST: u8 = 1;\n",
+        "bd_b/src/lib.rt": "pub enum Box {\n}\npub fn of() {\n}\nfn kept() {\n}\n",
+        "bd_b/specs/Lib.antt": "pub record IsOf (n : ℕ) : Type 0 where\nabbrev pub MOST : ℕ\nabbrev hidden : ℕ\n",
+        "rows_a/src/lib.rt": "pub fn of() {\n}\n",
+    }
+    shutil.copytree(TOP / "tools", top / "tools", ignore=shutil.ignore_patterns("__pycache__"))
+    for name, text in files.items():
+        file = top / name if name == "crates.txt" else top / "crates" / name
+        file.parent.mkdir(parents=True, exist_ok=True)
+        file.write_text(text)
+    both = "Box: bd_a, bd_b\nMOST: bd_a, bd_b\n"
+    for words, wanted in {(): both + "2 of 4 words are defined in two crates or more\n",
+                          ("--all",): both + "kept: bd_a, bd_b\n3 of 5 words are defined in two crates or more\n",
+                          ("of", "IsOf"): "of: bd_b\nIsOf: bd_b\n"}.items():
+        ended = tool(top / "tools" / "names", *words)
+        report(f"names {' '.join(words)}".strip(), (ended.status, ended.out, ended.err) == (0, wanted, ""), str(ended))
+    ended = tool("names")
+    report("names, of these crates", ended.status == 0 and ended.out.endswith("in two crates or more\n"), str(ended))
+
+
 def check(program, room, report):
     pictured(room, report)
     layers(report)
     paragraphs(report)
     glossary(report)
     promises(report)
+    named(room, report)

@@ -19,6 +19,7 @@ WRONG = {
     "load": [[], ["img"], ["img", "a", "/", "b"]],
     "measure": [["nothing"], ["--program"]],
     "mount": [[], ["img"], ["img", "there", "more"]],
+    "names": [["--none"], ["no-such-word"]],
     "picture": [[], ["--most", "x", "img"], ["img", "img", "img"]],
     "plant": [["nothing"], ["--minutes", "x"], ["--due", "--table"], ["--due", "bd_io"]],
     "rows": [[], ["nothing"]],
