@@ -54,6 +54,17 @@ def layers(report):
     report("ARCHITECTURE.md has each crate", table == wanted, f"not in both: {other}")
 
 
+def cited(report):
+    """Each file that ARCHITECTURE.md names is there: `crate/folder/File.antt`, and others of that folder after it."""
+    lacking = []
+    for first, rest in re.findall(r"`(\w+/(?:specs|proofs|src|data)[^`]*)`((?:(?:, | and )`\w+\.antt`)*)",
+                                  page("ARCHITECTURE.md")):
+        folder = (TOP / "crates" / first).parent
+        for file in [TOP / "crates" / first, *(folder / name for name in re.findall(r"\w+\.antt", rest))]:
+            lacking += [] if file.exists() else [str(file.relative_to(TOP))]
+    report("ARCHITECTURE.md names files", not lacking, f"not there: {lacking}")
+
+
 def paragraphs(report):
     """No paragraph, item or row of a table has more than so many words."""
     long = [line[:60] for line in page("ARCHITECTURE.md").splitlines() if len(line.split()) > MOST_WORDS]
@@ -112,6 +123,7 @@ def named(room, report):
 def check(program, room, report):
     pictured(room, report)
     layers(report)
+    cited(report)
     paragraphs(report)
     glossary(report)
     promises(report)
