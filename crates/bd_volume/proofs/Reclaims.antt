@@ -234,6 +234,22 @@ look_fails m n last bad pushes v (map.Damaged block) good h = good block h
 look_fails m n last bad pushes v (map.Worn which) good h = absurd h
 look_fails m n last bad pushes v map.NoMemory good h = tt
 
+-- no checkpoint could be made for it
+pub save_fails : (pushes : ℕ) (step : Reclaim) (a b : View) (fault : Fault) → b ≡ a → IsDueChange pushes step a → (HasRoomFor step a → ⊥) → IsEdgeSaveFault fault b → IsChangeFault fault pushes b
+save_fails pushes step a b Device same next short h = tt
+save_fails pushes step a b (Damaged block) same next short h = h
+save_fails pushes step a b (Worn which) same next short h = subst (λ (w : Counter). IsWornToReclaim w b) (sym h.0) h.1
+save_fails pushes step a b NoMemory same next short h = tt
+save_fails pushes step a b (Full free need) same next short h = record {
+  change = step;
+  next = subst (λ (v : View). IsDueChange pushes step v) (sym same) next;
+  short = subst (λ (v : View). HasRoomFor step v → ⊥) (sym same) short;
+  free_is = h.0;
+  need_is = h.1;
+  unsaved = h.2;
+}
+save_fails pushes step a b (Stopped call) same next short h = h
+
 -- it couldn't be made
 pub change_fails : (K : Type 0) (m n : ℕ) (last : Bool) (bad : ℕ → Type 0) (pushes : ℕ) (step : Reclaim) (a b : View) (fault : MapFault) → ((block : ℕ) → bad block → ⊥) → (IsSound a.tree.nodes a.tree.table → K) → IsDueChange pushes step a → b ≡ a
     → IsCause m n last bad (IsWornChange K a.tree.nodes a.tree.table step) fault → IsChangeFault (fault_of fault) pushes b
