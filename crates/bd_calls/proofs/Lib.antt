@@ -7,3 +7,4 @@ pub mod Acks
 pub mod Fills
 pub mod Unread
 pub mod Offered
+pub mod Exports

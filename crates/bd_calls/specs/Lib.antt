@@ -2,5 +2,6 @@ pub mod Check
 pub mod Format
 pub mod Fill
 pub mod Work
+pub mod Export
 pub mod Run
 pub mod Offered
