@@ -12,6 +12,7 @@ ghost use Rattle.bd_calls.specs.Work.{disk};
 ghost use Rattle.bd_calls.specs.Run.{CanEnd, EndsUncalled, end_status, ends, Does, IsFaultless, IsFlushed, IsReady, Makes, Ran, Uses, WritesEnd, WritesLast, image_of, seen, usage_line};
 
 use crate::checking::{check_image, end_check};
+use crate::exporting::{end_export, export_image};
 use crate::fill::{end_fill, fill_image};
 use crate::format::format_image;
 use crate::task::{Task, read_task};
@@ -218,18 +219,22 @@ fn end_unread<K: Sink>(alloc: Global, sink: &mut K) -> Outcome
 /// executed, and how many of their replies say `ok`, `no` and `full`; at a fault it comes before the
 /// fault's line. `PROGRAM check IMAGE` writes no block: it finds out whether the image stands for a
 /// tree, and writes `ok check nodes N keys K count C` (status 0), or `no check block B`, `no check
-/// node I` or `no check limit 16777216` (status 10). Other words have the usage line written, and
-/// nothing else is done (status 2); so have those of `export`, `import` and `serve`, though they
-/// make a call. The first fault ends the run with its status, and its line where the sink takes it:
-/// the device 3, damage 4, of a bad block of the image, the source 5, memory 6, a script of more
-/// than 16,777,216 bytes 7, a counter 8, the sink 9. Where there is no memory to read the words,
-/// that fault's line is all that is done. Before each take and at the end the sink passes on all
-/// that was written; after its own fault it isn't called again.
+/// node I` or `no check limit 16777216` (status 10). `PROGRAM export IMAGE PATH` executes no command
+/// that writes: the stream of what is at the path of the image's tree and below it is written, and no
+/// line (status 0). Where `PATH` isn't a path or nothing is there nothing is written, and where the
+/// next entry's path has more than 512 bytes the stream ends before it (status 10). Other words have
+/// the usage line written, and nothing else is done (status 2); so have those of `import` and
+/// `serve`, though they make a call. The first fault ends the run with its status, and its line where
+/// the sink takes it: the device 3, damage 4, of a bad block of the image, the source 5, memory 6, a
+/// script of more than 16,777,216 bytes 7, a counter 8, the sink 9. Where there is no memory to read
+/// the words, that fault's line is all that is done. Before each take and at the end the sink passes
+/// on all that was written; after its own fault it isn't called again.
 ///
-/// At each `sync`, at `stop` and at the end of the script all accepted commands are made durable
-/// and acknowledged; at a fault they aren't. Stopped at any moment, the image stands for the tree
-/// after a front of the accepted commands, one that holds all that was acknowledged. A format that
-/// ends well is acknowledged once, as of no commands; at a fault it isn't.
+/// At each `sync`, at `stop`, at the end of the script and at that of a whole stream all accepted
+/// commands are made durable and acknowledged; at a fault they aren't. Stopped at any moment, the
+/// image stands for the tree after a front of the accepted commands, one that holds all that was
+/// acknowledged. A format that ends well is acknowledged once, as of no commands; at a fault it
+/// isn't.
 pub fn run<D: Attach, S: Source, K: Sink>(
     alloc: Global,
     words: &[String],
@@ -299,7 +304,7 @@ pub fn run<D: Attach, S: Source, K: Sink>(
         ≡ faults (D.fault_count dev.old) (S.fault_count src.old) (K.fault_count sink.old) }
 
     // Where nothing fails, the call is done, unless memory runs out or a counter is worn; a check
-    // may say no.
+    // may say no, and an export may write no whole stream.
     ensures complete { IfSome (offered (map string_bytes words.now)) (λ call.
         IsReady call (D.shows dev.old (image_of call)) (S.left src.old) → IsFaultless
         (faults (D.fault_count dev.old) (S.fault_count src.old) (K.fault_count sink.old))
@@ -322,6 +327,10 @@ pub fn run<D: Attach, S: Source, K: Sink>(
         Ok(Task::Check { image }) => {
             let found = check_image(alloc, image, dev);
             end_check(alloc, sink, found)
+        }
+        Ok(Task::Export { image, path }) => {
+            let ended = export_image(alloc, image, path, dev, sink);
+            end_export(sink, ended)
         }
         Err(WordsFault::Refused) => end_refused(alloc, sink),
         Err(WordsFault::NoMemory) => end_unread(alloc, sink),

@@ -5,7 +5,7 @@
 
 mod calling;
 mod checking;
-pub mod exporting;
+mod exporting;
 mod fill;
 mod format;
 pub mod laws;
