@@ -8,3 +8,4 @@ pub mod Fills
 pub mod Unread
 pub mod Offered
 pub mod Exports
+pub mod Imports

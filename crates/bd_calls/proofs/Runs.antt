@@ -425,14 +425,9 @@ worked_refused settled e how asks before now kind asked sound worn time opened b
 
 -- no line of a script was executed
 pub ran_refused : (mode : Mode) (settled : ℕ) (e : Fault) (before now : Disk) (script w : Option (List ℕ)) (takes : Option Takes) (b a : Faults) → IsLineFault e
-    → ((t : Tree) (n : ℕ) (image : Image) → before.image ≡ Some image → ImageStandsFor t n image → (block : ℕ) → e ≡ Damaged block → ⊥)
-    → ((t : Tree) (n : ℕ) (image : Image) → before.image ≡ Some image → ImageStandsFor t n image → (which : Counter) → e ≡ Worn which
-    → WearsReplaying which image)
-    → ((t : Tree) (n : ℕ) (image : Image) → before.image ≡ Some image → ImageStandsFor t n image → Elapses before.calls now.calls before.left now.left (ImageStandsFor t n))
-    → ((t : Tree) (n : ℕ) (image : Image) → before.image ≡ Some image → ImageStandsFor t n image → AllStandFor t n (now.left settled) ⊎ IsUnmade settled before now)
-    → ((block : ℕ) → e ≡ Damaged block → IsBadIn before.image block)
+    → Worked settled (Some e) (AllDurable (has_stop [])) (IsOfScript mode [] script) [] [] before now
     → Ran mode settled (Some e) [] (ends before script takes w b) (ends now script takes w a)
-ran_refused mode settled e before now script w takes b a kind sound worn time opened bad = record {
+ran_refused mode settled e before now script w takes b a kind worked = record {
   exchanges = [];
   fed = record {
     front = [];
@@ -448,7 +443,7 @@ ran_refused mode settled e before now script w takes b a kind sound worn time op
     read_out = tt;
     replied = unwritten e kind;
   };
-  worked = worked_refused settled e (AllDurable (has_stop [])) (IsOfScript mode [] script) before now kind (lines_to_run mode [], inl refl) sound worn time opened bad;
+  worked = worked;
 }
   where
     at_line : (f : Fault) (bs : List ℕ) → IsLineFault f → Among mode (Some f) bs []
@@ -508,13 +503,13 @@ start_worn (volume.Full free need) e which is worn = absurd is
 start_worn (volume.Stopped call) e which is worn = absurd is
 
 -- a start that failed
-pub ran_unstarted : (mode : Mode) {D : Type 0} (g : Ghosts D) (v : VolumeFault) (e : Fault) (old now : D) (script w : Option (List ℕ)) (takes : Option Takes) (b a : Faults)
+pub worked_unstarted : {D : Type 0} (g : Ghosts D) (v : VolumeFault) (e : Fault) (how : Closing) (asks : List Spoken → Type 0) (old now : D) → ((lines : List Spoken) × asks lines)
     → IsStartFault v e → IsStartCause g old now v → ((t : Tree) (n : ℕ) → CanStart t n (g.contents old) → (block : ℕ) → v ≢ volume.Damaged block)
     → ((t : Tree) (n : ℕ) → IfSome (g.contents old) (λ image. ImageStandsFor t n image → (which : Counter) → v ≡ volume.Worn which → WearsReplaying which image))
     → OnlyStarts g old now → MayStart g old now → IfSome (g.contents old) (HasBlocks (g.block_count old))
-    → Ran mode (g.call_count old + 1) (Some e) [] (ends (disk_of g old) script takes w b) (ends (disk_of g now) script takes w a)
-ran_unstarted mode g v e old now script w takes b a fault cause sound wears left starts shape =
-    ran_refused mode (g.call_count old + 1) e (disk_of g old) (disk_of g now) script w takes b a (start_kind v e fault)
+    → Worked (g.call_count old + 1) (Some e) how asks [] [] (disk_of g old) (disk_of g now)
+worked_unstarted g v e how asks old now asked fault cause sound wears left starts shape =
+    worked_refused (g.call_count old + 1) e how asks (disk_of g old) (disk_of g now) (start_kind v e fault) asked
     (λ t n image is stands block damaged. sound t n (can_start t n (g.contents old) image is stands) block (start_damaged v e block fault damaged))
     (λ t n image is stands which worn. if_some (λ i. ImageStandsFor t n i → (c : Counter) → v ≡ volume.Worn c → WearsReplaying c i) (g.contents old) image is (wears t n)
     stands which (start_worn v e which fault worn))
@@ -530,6 +525,16 @@ ran_unstarted mode g v e old now script w takes b a fault cause sound wears left
     by t n start some (inl many) rose (inr h) = inl (h some (λ first. omega (arith, first.few, many)) t n start).each
     by t n start some (inr few) (inl rose) (inr h) = inr (inr (few, rose))
     by t n start some (inr few) (inr unrisen) (inr h) = inl (h some (λ first. unrisen first.rose) t n start).each
+
+-- of a script
+pub ran_unstarted : (mode : Mode) {D : Type 0} (g : Ghosts D) (v : VolumeFault) (e : Fault) (old now : D) (script w : Option (List ℕ)) (takes : Option Takes) (b a : Faults)
+    → IsStartFault v e → IsStartCause g old now v → ((t : Tree) (n : ℕ) → CanStart t n (g.contents old) → (block : ℕ) → v ≢ volume.Damaged block)
+    → ((t : Tree) (n : ℕ) → IfSome (g.contents old) (λ image. ImageStandsFor t n image → (which : Counter) → v ≡ volume.Worn which → WearsReplaying which image))
+    → OnlyStarts g old now → MayStart g old now → IfSome (g.contents old) (HasBlocks (g.block_count old))
+    → Ran mode (g.call_count old + 1) (Some e) [] (ends (disk_of g old) script takes w b) (ends (disk_of g now) script takes w a)
+ran_unstarted mode g v e old now script w takes b a fault cause sound wears left starts shape =
+    ran_refused mode (g.call_count old + 1) e (disk_of g old) (disk_of g now) script w takes b a (start_kind v e fault)
+    (worked_unstarted g v e (AllDurable (has_stop [])) (IsOfScript mode [] script) old now (lines_to_run mode [], inl refl) fault cause sound wears left starts shape)
 
 -- ---- an image by its name
 
@@ -614,13 +619,20 @@ pub next_few : (n : ℕ) → next_count n ≤ n + 1
 next_few n = grind (arith)
 
 -- an attach that failed
+pub worked_detached : (how : Closing) (asks : List Spoken → Type 0) (before now : Disk) → ((lines : List Spoken) × asks lines) → now.calls ≡ next_count before.calls
+    → Elapses before.calls now.calls before.left now.left Nothing → Worked (before.calls + 2) (Some Device) how asks [] [] before now
+worked_detached how asks before now asked once time =
+    worked_refused (before.calls + 2) Device how asks before now tt asked (λ t n image is stands block damaged. cc) (λ t n image is stands which worn. cc)
+    (λ t n image is stands. within Nothing (ImageStandsFor t n) time (λ c none. absurd none))
+    (λ t n image is stands. inr (inl (omega (arith, once, next_few before.calls)))) (λ block damaged. cc)
+
+-- of a script
 pub ran_detached : (mode : Mode) (before now : Disk) (script w : Option (List ℕ)) (takes : Option Takes) (b a : Faults) → now.calls ≡ next_count before.calls
     → Elapses before.calls now.calls before.left now.left Nothing
     → Ran mode (before.calls + 2) (Some Device) [] (ends before script takes w b) (ends now script takes w a)
 ran_detached mode before now script w takes b a once time =
-    ran_refused mode (before.calls + 2) Device before now script w takes b a tt (λ t n image is stands block damaged. cc) (λ t n image is stands which worn. cc)
-    (λ t n image is stands. within Nothing (ImageStandsFor t n) time (λ c none. absurd none))
-    (λ t n image is stands. inr (inl (omega (arith, once, next_few before.calls)))) (λ block damaged. cc)
+    ran_refused mode (before.calls + 2) Device before now script w takes b a tt
+    (worked_detached (AllDurable (has_stop [])) (IsOfScript mode [] script) before now (lines_to_run mode [], inl refl) once time)
 
 -- ---- causes
 

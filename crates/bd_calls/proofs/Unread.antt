@@ -12,11 +12,12 @@ use Rattle.bd_shell.specs.declared.fault.Fault.TheVariants.{Memory, Sink}
 use Rattle.bd_shell.specs.declared.outcome.Ack.{Ack}
 use Rattle.bd_shell.specs.Fault.{Faults, status_of}
 use Rattle.bd_calls.specs.Offered.{is_offered}
-use Rattle.bd_calls.specs.Work.{Disk}
-use Rattle.bd_calls.specs.Run.{CanEnd, Does, Makes, Seen, Uses, WritesEnd, end_status, ends}
-use Rattle.bd_shell.specs.Session.{end_of}
+use Rattle.bd_calls.specs.Work.{AllDurable, Disk}
+use Rattle.bd_calls.specs.Run.{CanEnd, Does, IsOfScript, Makes, Seen, Uses, WritesEnd, end_status, ends}
+use Rattle.bd_shell.specs.Session.{end_of, has_stop}
+use Rattle.bd_shell.specs.Transcript.{lines_to_run}
 use Rattle.bd_calls.proofs.Fills.{never_two}
-use Rattle.bd_calls.proofs.Runs.{ran_refused}
+use Rattle.bd_calls.proofs.Runs.{ran_refused, worked_refused}
 
 -- ---- what is said of the call that the words make
 
@@ -52,8 +53,9 @@ does_unread (Run image) d script w w' takes b a status acks is none last offered
   status_is = is;
   replies = w;
   ended = b;
-  ran = ran_refused Single (d.calls + 2) Memory d d script w takes b b tt (λ t n image is stands block damaged. cc) (λ t n image is stands which worn. cc)
-      (λ t n image is stands. idle d.calls d.left _) (λ t n image is stands. inr (inl (omega arith))) (λ block damaged. cc);
+  ran = ran_refused Single (d.calls + 2) Memory d d script w takes b b tt
+      (worked_refused (d.calls + 2) Memory (AllDurable (has_stop [])) (IsOfScript Single [] script) d d tt (lines_to_run Single [], inl refl) (λ t n image is stands block damaged. cc)
+      (λ t n image is stands which worn. cc) (λ t n image is stands. idle d.calls d.left _) (λ t n image is stands. inr (inl (omega arith))) (λ block damaged. cc));
   cause = refl;
   last = last;
 })

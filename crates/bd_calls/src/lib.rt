@@ -8,6 +8,7 @@ mod checking;
 pub mod exporting;
 mod fill;
 mod format;
+pub mod importing;
 pub mod laws;
 mod memory;
 mod task;
