@@ -1,6 +1,6 @@
 -- How an import at a path goes on a volume that started, and what it leaves of an image.
-use Rattle.std.proofs.Common.{◌≡◌, ◌≢◌, ◌⊎◌, ◌↔◌, ℕ, ◌+◌, ◌<◌, Bool, true, false, List, [], ◌∷◌, ◌++◌, map, refl, sym, ap, subst, ◌∙◌, arith, inl, inr}
-use Rattle.std.specs.Prelude.{IfSome, not}
+use Rattle.std.proofs.Common.{◌≡◌, ◌≢◌, ◌⊎◌, ◌↔◌, ℕ, ◌+◌, ◌<◌, ◌≤◌, Bool, true, false, List, [], ◌∷◌, ◌++◌, length, map, refl, sym, ap, subst, ◌∙◌, arith, inl, inr}
+use Rattle.std.specs.Prelude.{IfSome, IsSomeAnd, OnOk, not}
 use Rattle.std.specs.List.{AllByRecursion}
 use Rattle.std.specs.declared.result.Result.{Result}
 use Rattle.std.specs.declared.result.Result.TheVariants.{Ok, Err}
@@ -21,6 +21,7 @@ use Rattle.bd_model.specs.Tree.{Tree}
 use Rattle.bd_names.specs.Names.{path_of}
 use Rattle.bd_sessions.specs.Spoken.{Spoken}
 use Rattle.bd_stream.specs.Importing.{Path, fed, start}
+use Rattle.bd_stream.specs.Streams.{stream_limit}
 use Rattle.bd_volume.specs.Faults.{IsStartCause}
 use Rattle.bd_volume.specs.Starts.{OnlyStarts}
 use Rattle.bd_volume.specs.Volume.{IsFirstView}
@@ -31,7 +32,7 @@ use Rattle.bd_shell.specs.declared.fault.Fault.{Fault}
 use Rattle.bd_shell.specs.declared.fault.Fault.TheVariants.{Device, Damaged, Source, Memory, TooLong, Worn, Sink}
 use Rattle.bd_shell.specs.declared.outcome.Ack.{Ack}
 use Rattle.bd_shell.specs.declared.shell.Shell.{Shell}
-use Rattle.bd_shell.specs.Fault.{IsStartFault, fault_line, status_of}
+use Rattle.bd_shell.specs.Fault.{IsCaused, IsStartFault, fault_line, faults, status_of}
 use Rattle.bd_shell.specs.Transcript.{Known, State, Exchange, HasAcked, HasTranscript, IsFront, commanded, durable, executed, state_at}
 use Rattle.bd_shell.specs.Session.{ClosedAt, Tells, acks_at_end, closed, end_of}
 use Rattle.bd_shell.specs.Shell.{CanStart, IsLineFault, MayStart, ShellAt, acks_in, device_in, stop_in, view_in}
@@ -43,9 +44,11 @@ use Rattle.bd_transfer.specs.Giving.{AllGone, EndsGiving, Imports, SomeGone, giv
 use Rattle.bd_transfer.specs.declared.importing.ImportEnd.{ImportEnd}
 use Rattle.bd_transfer.specs.declared.importing.ImportEnd.TheVariants.{Whole, BadStream, LongPath, Refused, Full}
 use Rattle.bd_calls.specs.Fill.{WritesSome}
-use Rattle.bd_calls.specs.Import.{ArrivedAt, ImportsPath, IsGivenAt, RanStream, Streamed, TellsImport, given_at, import_closing, import_closing_of, import_ended}
+use Rattle.bd_calls.specs.Import.{ArrivedAt, ImportsPath, IsGivenAt, RanStream, TookStream, TellsImport, given_at, import_closing, import_closing_of, import_ended, import_status}
+use Rattle.bd_calls.specs.Run.{EndsUnfailed, HasStart, IsDetached, IsFaultless, Seen}
 use Rattle.bd_calls.specs.Work.{Disk, NamesDamage, adds_none, disk}
-use Rattle.bd_calls.proofs.Runs.{EndsWork, IsIdle, disk_of, start_kind, worked_attached, worked_detached, worked_on, worked_unstarted}
+use Rattle.bd_calls.proofs.Fills.{never_zero}
+use Rattle.bd_calls.proofs.Runs.{EndsWork, IsIdle, disk_of, rose_next, start_kind, too_long, undamaged, worked_attached, worked_detached, worked_on, worked_unstarted}
 
 -- ---- at a path
 
@@ -132,8 +135,8 @@ nothing (Some target) e kind rest = by e kind
     by (Worn which) kind = (some, refl)
     by Sink kind = absurd kind
 
-streamed_none : (target : Option Path) (e : Fault) → IsLineFault e → (script : Known) (takes : Option Takes) → Streamed (Err e) target [] script script takes takes
-streamed_none target e kind script takes = record {
+took_nothing : (target : Option Path) (e : Fault) → IsLineFault e → (script : Known) (takes : Option Takes) → TookStream (Err e) target [] script script takes takes
+took_nothing target e kind script takes = record {
   bytes = [];
   front = [];
   final = [];
@@ -178,7 +181,7 @@ pub none_read : (target : Option Path) (at : State → Type 0) (script : Known) 
 none_read target at script takes = record {
   exchanges = [];
   answered = tt;
-  stream = streamed_none target Memory tt script takes;
+  stream = took_nothing target Memory tt script takes;
   runs = λ s h. record {
     entries = [];
     exchanges_are = refl;
@@ -223,7 +226,7 @@ front_durable : (xs ys : List Spoken) → IsFront xs ys → durable ys ≡ 0 →
 front_durable xs ys front none = omega (arith, durable-append xs front.0, ap durable front.1, none)
 
 none_durable : (r : Result (Option ImportEnd) Fault) (target : Option Path) (xs : List Exchange) (script rest : Known) (before now : Option Takes)
-    → (s : Streamed r target xs script rest before now) → durable (executed xs) ≡ 0
+    → (s : TookStream r target xs script rest before now) → durable (executed xs) ≡ 0
 none_durable r target xs script rest before now s =
     front_durable (executed xs) (given_at target s.bytes) (front_arrived r target s.bytes s.taken rest xs s.arrived) (given_durable target s.bytes)
 
@@ -283,7 +286,7 @@ module _ {D : Type 0} (g : Ghosts D) where
       → RanStream text (g.call_count old + 1) (Err e) [] script script takes takes (disk_of g old) (disk_of g now)
   stream_unstarted text v e old now script takes fault cause sound wears left starts shape = record {
     exchanges = [];
-    stream = streamed_none (path_of text) e (start_kind v e fault) script takes;
+    stream = took_nothing (path_of text) e (start_kind v e fault) script takes;
     worked = worked_unstarted g v e (import_closing (Err e)) (IsGivenAt (path_of text) []) old now (given_at (path_of text) [], refl) fault cause sound wears left starts shape;
   }
 
@@ -293,7 +296,7 @@ pub stream_detached : (text : List ℕ) (before now : Disk) (script : Known) (ta
     → RanStream text (before.calls + 2) (Err Device) [] script script takes takes before now
 stream_detached text before now script takes once time = record {
   exchanges = [];
-  stream = streamed_none (path_of text) Device tt script takes;
+  stream = took_nothing (path_of text) Device tt script takes;
   worked = worked_detached (import_closing (Err Device)) (IsGivenAt (path_of text) []) before now (given_at (path_of text) [], refl) once time;
 }
 
@@ -320,3 +323,89 @@ import_of_end r end status old new before now is h = subst (λ r. TellsImport r 
 pub import_of_fault : (r : Result (Option ImportEnd) Fault) (e : Fault) (status : ℕ) (old new : Known) (before now : ℕ) → r ≡ Err e → (status ≡ status_of e) × WritesSome (fault_line e) old new before now
     → TellsImport r status old new before now
 import_of_fault r e status old new before now is h = subst (λ r. TellsImport r status old new before now) (sym is) h
+
+-- ---- the end of the call
+
+-- no import ends by a fault of the sink before its line
+never_sink : (target : Option Path) (bytes taken : List ℕ) (rest : Known) (xs : List Exchange) → ArrivedAt (Err Sink) target bytes taken rest xs → ⊥
+never_sink None bytes taken rest xs h = h.fails
+never_sink (Some target) bytes taken rest xs h = h
+
+pub never_by_sink : (text : List ℕ) (settled : ℕ) (r : Result (Option ImportEnd) Fault) (acks : List Ack) (script rest : Known) (t1 t2 : Option Takes) (before now : Disk)
+    → RanStream text settled r acks script rest t1 t2 before now → r ≡ Err Sink → ⊥
+never_by_sink text settled r acks script rest t1 t2 before now h is =
+    let s = h.stream in
+    never_sink (path_of text) s.bytes s.taken rest h.exchanges (subst (λ r. ArrivedAt r (path_of text) s.bytes s.taken rest h.exchanges) is s.arrived)
+
+pub import_flushed : {A B : Type 0} → (A → ⊥) → A ⊎ B → B
+import_flushed never (inl h) = absurd (never h)
+import_flushed never (inr h) = h
+
+-- at status 0 the sink didn't fail
+pub import_well : (r : Result (Option ImportEnd) Fault) (status : ℕ) (old new : Known) (before now : ℕ) (P : Type 0) → TellsImport r status old new before now → status ≡ 0
+    → ((end : Option ImportEnd) → r ≡ Ok end → now ≡ before → P) → P
+import_well (Ok end) status old new before now P (inl h) zero then = then end refl h.2
+import_well (Ok end) status old new before now P (inr h) zero then = absurd (omega (arith, h.0))
+import_well (Err e) status old new before now P h zero then = absurd (never_zero e (sym h.0 ∙ zero))
+
+-- a fault has none of these statuses, unless it is the sink's
+few_statuses : (e : Fault) → (e ≡ Sink → ⊥) → (3 ≤ status_of e) × (status_of e ≤ 8)
+few_statuses Device never = (omega arith, omega arith)
+few_statuses (Damaged block) never = (omega arith, omega arith)
+few_statuses Source never = (omega arith, omega arith)
+few_statuses Memory never = (omega arith, omega arith)
+few_statuses TooLong never = (omega arith, omega arith)
+few_statuses (Worn which) never = (omega arith, omega arith)
+few_statuses Sink never = absurd (never refl)
+
+other_status : (e : Fault) (status : ℕ) → (e ≡ Sink → ⊥) → status ≡ status_of e → (status ≡ 0) ⊎ (status ≡ 9) ⊎ (status ≡ 10) → ⊥
+other_status e status never is (inl k) = omega (arith, k, is, (few_statuses e never).0)
+other_status e status never is (inr (inl k)) = omega (arith, k, is, (few_statuses e never).1)
+other_status e status never is (inr (inr k)) = omega (arith, k, is, (few_statuses e never).1)
+
+-- where only its line may have failed, what holds of an end without a fault does
+pub import_done : (r : Result (Option ImportEnd) Fault) (status : ℕ) (old new : Known) (before now : ℕ) (P : Type 0) → TellsImport r status old new before now → (r ≡ Err Sink → ⊥)
+    → (status ≡ 0) ⊎ (status ≡ 9) ⊎ (status ≡ 10) → OnOk r P → P
+import_done (Ok end) status old new before now P told never done h = h
+import_done (Err e) status old new before now P told never done h = absurd (other_status e status (λ is. never (ap Err is)) told.0 done)
+
+-- the device
+pub import_used : {P U T : Type 0} (r : Result (Option ImportEnd) Fault) (status : ℕ) (old new : Known) (k k' : ℕ) (before now : Seen) (image : List ℕ) → TellsImport r status old new k k'
+    → P ⊎ ((r ≡ Err Device) × (now.blocks ≡ 0) × (now.calls ≡ next_count before.calls) × (now.shows image ≡ before.shows image) × T)
+    → P ⊎ (IsDetached status before now × (now.shows image ≡ before.shows image) × T) ⊎ U
+import_used r status old new k k' before now image told (inl named) = inl named
+import_used r status old new k k' before now image told (inr h) =
+    let told_device : TellsImport (Err Device) status old new k k' = subst (λ r. TellsImport r status old new k k') h.0 told in
+    inr (inl (record { status_is = told_device.0; blocks = h.1; once = h.2 }, h.3, h.4))
+
+-- ---- where nothing fails
+
+ends_well : (end : Option ImportEnd) (status : ℕ) → status ≡ import_status end → EndsUnfailed status ⊎ (status ≡ 10)
+ends_well None status is = inr is
+ends_well (Some (Whole count)) status is = inl (inl is)
+ends_well (Some BadStream) status is = inr is
+ends_well (Some LongPath) status is = inr is
+ends_well (Some (Refused r)) status is = inr is
+ends_well (Some (Full free need)) status is = inr is
+
+-- a stream of which more came than the limit
+beyond : (target : Option Path) (bytes taken : List ℕ) (rest : Known) (xs : List Exchange) → ArrivedAt (Err TooLong) target bytes taken rest xs → length taken ≡ stream_limit + 1
+beyond None bytes taken rest xs h = absurd h.fails
+beyond (Some target) bytes taken rest xs h = h.1
+
+pub import_complete : (r : Result (Option ImportEnd) Fault) (text : List ℕ) (settled status : ℕ) (acks : List Ack) (script rest : Known) (t1 t2 : Option Takes) (from now : Disk)
+    (d d' s s' k k' : ℕ) (last : Bool) (old new : Known) → TellsImport r status old new k k' → RanStream text settled r acks script rest t1 t2 from now
+    → IsCaused (faults d s 0) (faults d' s' 0) last r → IsSomeAnd from.image HasStart × IsSomeAnd script (λ bytes. length bytes ≤ stream_limit)
+    → IsFaultless (faults d s k) (faults d' s' k') → EndsUnfailed status ⊎ (status ≡ 10)
+import_complete (Ok end) text settled status acks script rest t1 t2 from now d d' s s' k k' last old new (inl h) ran cause ready f = ends_well end status h.0
+import_complete (Ok end) text settled status acks script rest t1 t2 from now d d' s s' k k' last old new (inr h) ran cause ready f = absurd (f.sink h.2)
+import_complete (Err Device) text settled status acks script rest t1 t2 from now d d' s s' k k' last old new h ran cause ready f = absurd (f.device (rose_next d d' cause.cause.0))
+import_complete (Err (Damaged block)) text settled status acks script rest t1 t2 from now d d' s s' k k' last old new h ran cause ready f =
+    absurd (undamaged settled block (import_closing (Err (Damaged block))) (IsGivenAt (path_of text) ran.stream.bytes) ran.exchanges acks from now ran.worked ready.0)
+import_complete (Err Source) text settled status acks script rest t1 t2 from now d d' s s' k k' last old new h ran cause ready f = absurd (f.source cause.cause.0)
+import_complete (Err Memory) text settled status acks script rest t1 t2 from now d d' s s' k k' last old new h ran cause ready f = inl (inr (inl h.0))
+import_complete (Err TooLong) text settled status acks script rest t1 t2 from now d d' s s' k k' last old new h ran cause ready f =
+    absurd (too_long stream_limit script rest ran.stream.taken (beyond (path_of text) ran.stream.bytes ran.stream.taken rest ran.exchanges ran.stream.arrived) ran.stream.script_is ready.1)
+import_complete (Err (Worn which)) text settled status acks script rest t1 t2 from now d d' s s' k k' last old new h ran cause ready f = inl (inr (inr h.0))
+import_complete (Err Sink) text settled status acks script rest t1 t2 from now d d' s s' k k' last old new h ran cause ready f =
+    absurd (never_sink (path_of text) ran.stream.bytes ran.stream.taken rest ran.exchanges ran.stream.arrived)

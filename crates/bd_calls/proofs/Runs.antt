@@ -678,11 +678,11 @@ rose_later a b d h (inl r) = inl (omega arith)
 rose_later a b d h (inr r) = inr (omega arith)
 
 -- a script of which more came than the limit is longer
-too_long : (script rest : Option (List ℕ)) (taken : List ℕ) → length taken ≡ script_limit + 1 → script ≡ prepend_known taken rest
-    → IsSomeAnd script (λ bytes. length bytes ≤ script_limit) → ⊥
-too_long script None taken long is short = subst (λ o. IsSomeAnd o (λ bytes. length bytes ≤ script_limit)) is short
-too_long script (Some more) taken long is short =
-    let few : length (taken ++ more) ≤ script_limit = subst (λ o. IsSomeAnd o (λ bytes. length bytes ≤ script_limit)) is short in
+pub too_long : (limit : ℕ) (script rest : Option (List ℕ)) (taken : List ℕ) → length taken ≡ limit + 1 → script ≡ prepend_known taken rest
+    → IsSomeAnd script (λ bytes. length bytes ≤ limit) → ⊥
+too_long limit script None taken long is short = subst (λ o. IsSomeAnd o (λ bytes. length bytes ≤ limit)) is short
+too_long limit script (Some more) taken long is short =
+    let few : length (taken ++ more) ≤ limit = subst (λ o. IsSomeAnd o (λ bytes. length bytes ≤ limit)) is short in
     omega (arith, few, long, length-append taken more)
 
 -- an image that is known and stands for a tree has no damage
@@ -707,7 +707,7 @@ faultless_run mode settled (Damaged block) acks from now before ended later last
     absurd (undamaged settled block (AllDurable (has_stop r.exchanges)) (IsOfScript mode r.fed.taken from.script) r.exchanges acks from.disk now.disk r.worked stands)
 faultless_run mode settled Source acks from now before ended later last r cause k stands short f = absurd (f.source cause.0)
 faultless_run mode settled Memory acks from now before ended later last r cause k stands short f = inl refl
-faultless_run mode settled TooLong acks from now before ended later last r cause k stands short f = absurd (too_long from.script now.script r.fed.taken r.fed.taken_at.0 r.fed.script_is short)
+faultless_run mode settled TooLong acks from now before ended later last r cause k stands short f = absurd (too_long script_limit from.script now.script r.fed.taken r.fed.taken_at.0 r.fed.script_is short)
 faultless_run mode settled (Worn which) acks from now before ended later last r cause k stands short f = inr refl
 faultless_run mode settled Sink acks from now before ended later last r cause k stands short f = absurd (f.sink (rose_later before.sink ended.sink later k cause.0))
 

@@ -82,7 +82,7 @@ ArrivedAt (Err e) (Some target) bytes taken rest xs = Arrived (Err e) target byt
 
 -- how the commands that were executed stand to a stream, of which `script` is left of the source
 -- before and `rest` after, and to how it was asked for; where the path is none it wasn't
-pub record Streamed (r : Result (Option ImportEnd) Fault) (target : Option Path)
+pub record TookStream (r : Result (Option ImportEnd) Fault) (target : Option Path)
     (xs : List Exchange) (script rest : Known) (before now : Option Takes) : Type 0 where
   pub bytes : List ℕ
   pub front : List ℕ
@@ -100,7 +100,7 @@ pub record ImportsPath (r : Result (Option ImportEnd) Fault) (target : Option Pa
     (first last : State → Type 0) (script rest : Known) (before now : Option Takes) : Type 0 where
   pub exchanges : List Exchange
   pub answered : AllByRecursion IsAnswered exchanges
-  pub stream : Streamed r target exchanges script rest before now
+  pub stream : TookStream r target exchanges script rest before now
   pub runs : (s : State) → first s → HasTranscript s exchanges
       (EndsGiving (end_of r) (given_at target stream.bytes) exchanges last)
 
@@ -111,7 +111,7 @@ pub record RanStream (text : List ℕ) (settled : ℕ) (r : Result (Option Impor
     (acks : List Ack) (script rest : Known) (asked now_asked : Option Takes) (before now : Disk)
     : Type 0 where
   pub exchanges : List Exchange
-  pub stream : Streamed r (path_of text) exchanges script rest asked now_asked
+  pub stream : TookStream r (path_of text) exchanges script rest asked now_asked
   pub worked : Worked settled (end_of r) (import_closing r)
       (IsGivenAt (path_of text) stream.bytes) exchanges acks before now
 
