@@ -4,22 +4,23 @@ order.
 A reclaim goes over the root and each inner node that one edge of such a node names and nothing else. Of what a node has
 itself comes first that a root adds nothing to its only child, then that a Cut decides all keys of an edge, which loses
 its child, then that a Goto does, whose node is asked from then on, and then that another Cut waits for an edge and goes
-down. Then it looks at each edge: a child that is asked with nothing in front of a key keeps what it is asked for, where
-less is left to change then, and the walk goes on there. At last come edges whose child has nothing for them, as far as
-64 nodes tell that. What is named no more goes.
+down; and then that an edge asks an inner node which only passes on what it asks, and asks that one's child from then on.
+Then it looks at each edge: a child that is asked with nothing in front of a key keeps what it is asked for, where less
+is left to change then, and the walk goes on there. At last come edges whose child has nothing for them, as far as 64
+nodes tell that. What is named no more goes.
 
-The program makes pushes only while many slots are free, and stops after 4,096 of them. Of these two a rehearsal knows
+The program makes pushes only while many slots are free, and stops after 65,536 of them. Of these two a rehearsal knows
 the second.
 """
 from itertools import takewhile
 from typing import NamedTuple
 
 from flushes import Nodes
-from nodes import CUT, GOTO, Message
-from shapes import Shape, asked, bare, exchanged, followed_by, narrowed_to
+from nodes import CUT, GOTO, Edge, Message
+from shapes import Shape, asked, bare, exchanged, followed_by, narrowed_to, passing
 
 # As many pushes at most, as the program makes, and as many changes.
-MOST_PUSHES, MOST_CHANGES = 4_096, 1_000_000
+MOST_PUSHES, MOST_CHANGES = 65_536, 1_000_000
 # An edge's child is looked through in so many nodes at most.
 MOST_LOOKS = 64
 # So many bytes wait in the root at most where a removal is put there.
@@ -27,13 +28,15 @@ LATE_BYTES = 24_576
 
 
 class Change(NamedTuple):
-    """A change to make at a node: what is done there, the nodes above it, and the places of an edge and a message."""
+    """A change to make at a node: what is done there, the nodes above it, and the places of an edge and a message; or
+    in place of the message the edge that is to stand there."""
 
     kind: str
     above: list
     id: int
     place: int = 0
     at: int = 0
+    edge: Edge | None = None
 
 
 class Rehearsal(Nodes):
@@ -114,7 +117,7 @@ class Rehearsal(Nodes):
         return child not in self.passed
 
     def look(self, above, id_):
-        """The first change at a node for what it has itself, or None."""
+        """The first change at a node for what it has itself, or else for an edge that can pass by its child, or None."""
         shape = self.shape(id_)
         if id_ == self.root and self.is_thin(shape):
             return Change("shrink", [], id_)
@@ -123,7 +126,17 @@ class Rehearsal(Nodes):
             if found:
                 return Change(kind, list(above), id_, *found)
         place = shape.first_cut() if self.pushes < MOST_PUSHES else None
-        return None if place is None else Change("start", list(above), id_, place)
+        return self.look_for_pass(above, id_) if place is None else Change("start", list(above), id_, place)
+
+    def look_for_pass(self, above, id_):
+        """The first edge of a node that can ask by its child in place of that one, as the change of it."""
+        shape = self.shape(id_)
+        for place, edge in enumerate(shape.edges):
+            if edge.child and self.level(edge.child):
+                made = passing(edge, shape.end(place), self.shape(edge.child))
+                if made:
+                    return Change("pass_by", list(above), id_, place, edge=made)
+        return None
 
     def is_thin(self, shape):
         """Whether a root adds nothing to its only child, an inner node."""
@@ -233,6 +246,10 @@ class Rehearsal(Nodes):
         """A Cut that waits for an edge goes down, with what waits before it."""
         self.pushes += 1
         self.begin(change.above, change.id, change.place)
+
+    def pass_by(self, change):
+        """An edge asks by a child that only passes on what it asks."""
+        self.put(change.id, exchanged(self.shape(change.id), change.place, [change.edge]))
 
     def bare(self, change):
         """An edge loses a child that has nothing for it."""

@@ -166,6 +166,25 @@ def asked(edge, end, lo, hi):
     return edge.source + first[edge.lift :], after(edge.source)
 
 
+def passing(edge, hi, shape):
+    """The edge by which one, whose keys end there, asks in place of a node that only passes on what it asks. None where
+    the node doesn't, or where no such edge can be stored."""
+    keys = asked(edge, hi, b"", None)
+    if not keys:
+        return None
+    first, past = keys
+    place = bisect_right(shape.pivots, first) - 1
+    other, end = shape.edges[place], shape.end(place)
+    if not other.child or end is not None and (past is None or end < past):
+        return None
+    if any(can_change(it, first, past) for it in shape.messages[other.seen :]):
+        return None
+    lift, source = edge.lift + max(other.lift - len(edge.source), 0), other.source + edge.source[other.lift :]
+    if len(source) > MOST_KEY or lift > common_size(edge.pivot, hi):
+        return None
+    return edge._replace(lift=lift, source=source, child=other.child)
+
+
 def narrowed_to(shape, edge, hi):
     """What an edge, whose keys end there, asks of a node, which is freed of the edge's source."""
     end = hi[edge.lift :] if hi is not None and hi.startswith(edge.pivot[: edge.lift]) else None

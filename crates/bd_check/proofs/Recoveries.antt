@@ -212,7 +212,7 @@ module _ {D : Type 0} (g : Ghosts D) where
   may_start r h = opened_standing g (g.contents r.pager.dev) r.pager r.log r.live h.opened h.settled h.idle refl h.stored h.known h.room
 
   -- a pager whose device was lent, and only read
-  pub lent_read : (p q : Paged D) → q ≡ record p { dev = q.dev; is_lent = false } → OnlyReads g p.dev q.dev → IsReadOf g p q
+  pub lent_read : (p q : Paged D) → q ≡ record p { dev = q.dev; is_lent = false; tails = q.tails } → OnlyReads g p.dev q.dev → IsReadOf g p q
   lent_read p q is reads = subst (λ (x : Paged D). IsReadOf g p x) (sym is) (record { device = reads; lent = λ so. refl; spots = refl; room = refl; rest = refl })
 
   module _ (r : Recovered D) (laws : (image : Image) (t : StoredTable) → HaveGoodNodes image t → HoldsNodes image t (nodes_in image t)) where

@@ -22,28 +22,30 @@ use bd_tails::Tails;
 use bd_tally::Owed;
 use std::alloc::Global;
 
-/// What is wrong with the nodes of a table of an image of so many slots; `None` exactly where they
-/// are sound. It reads each entry's slot, by rising ids: `BadBlock` names the first block of the
-/// first one without a well-formed node of the entry's level that names nodes of the table of lower
-/// levels alone; or else `BadNode` names the least id of an entry whose references aren't how often
-/// its node is named. `DeviceFault` comes only where a call of the device failed, which is the last
-/// one then. It is never `Damaged`.
+/// What is wrong with the nodes of a table; `None` exactly where they are sound. It reads each
+/// entry's slot, by rising ids: `BadBlock` names the first block of the first one without a
+/// well-formed node of the entry's level that names nodes of the table of lower levels alone; or
+/// else `BadNode` names the least id of an entry whose references aren't how often its node is
+/// named. What is known of the slots' tails stays right. `DeviceFault` comes only where a call of
+/// the device failed, which is the last one then. It is never `Damaged`.
 #[tactic(auto, using(bd_device::proofs::Calls::calls))]
 pub fn check_nodes<D: Device>(
     alloc: Global,
     dev: &mut D,
-    slots: u32,
     table: &Table,
+    tails: &mut Tails,
 ) -> Result<Option<Verdict>, ImageFault>
-    requires { AreTableEntries table.now.next_id table.now.root table.now.entries }
+    requires entries { AreTableEntries table.now.next_id table.now.root table.now.entries }
+    requires tails { AreTails (D.contents dev.old) tails.old }
     ensures found { IfSome (D.contents dev.old) (λ image. IfOk result (λ found.
         MatchOption found (HasSoundNodes image table.now) (IsWrongIn image table.now))) }
+    ensures tails { AreTails (D.contents dev.new) tails.new }
     ensures reads { OnlyReads D.Device dev.old dev.new }
     ensures cause { HasImageCause D.Device dev.old dev.new (λ _. ⊥) result }
 {
     images_are_decoded();
     let mut owed = Owed::new(alloc, table)?;
-    if let Some(block) = read_nodes(alloc, dev, slots, table, &mut owed)? {
+    if let Some(block) = read_nodes(alloc, dev, table, tails, &mut owed)? {
         return Ok(Some(Verdict::BadBlock { block }));
     }
     match owed.wrong() {
@@ -58,25 +60,26 @@ pub fn check_nodes<D: Device>(
 fn read_nodes<D: Device>(
     alloc: Global,
     dev: &mut D,
-    slots: u32,
     table: &Table,
+    tails: &mut Tails,
     owed: &mut Owed,
 ) -> Result<Option<u64>, ImageFault>
     requires rising { AllPairs (λ e o. e.id < o.id) table.now.entries }
+    requires tails { AreTails (D.contents dev.old) tails.old }
     requires unseen { Sees (D.contents dev.old) table.now [] owed.old }
     ensures bad { IfSome (D.contents dev.old) (λ image. IfOk result (λ found.
         MatchOption found (HaveGoodNodes image table.now) (IsFirstBadBlock image table.now))) }
     ensures seen { IfOk result (λ found. IfNone found
         (Sees (D.contents dev.old) table.now (ids_of table.now.entries) owed.new)) }
+    ensures tails { AreTails (D.contents dev.new) tails.new }
     ensures reads { OnlyReads D.Device dev.old dev.new }
     ensures cause { HasImageCause D.Device dev.old dev.new (λ _. ⊥) result }
 {
     images_are_decoded();
-    let mut tails = Tails::new(alloc, slots)?;
     let mut bytes = Box::new(alloc, [0; SLOT_SIZE])?;
     let entries = table.entries.as_slice();
     for entry in entries {
-        match good_node(alloc, dev, entries, *entry, &mut bytes, &mut tails)? {
+        match good_node(alloc, dev, entries, *entry, &mut bytes, tails)? {
             Some(node) => owed.owe(&node),
             None => return Ok(Some(slot_block(entry.slot))),
         }

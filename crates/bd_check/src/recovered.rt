@@ -5,6 +5,7 @@ ghost use Rattle.bd_command.specs.Log.{IsLogged};
 ghost use Rattle.bd_slots.specs.Layout.{IsTablePlace, image_blocks};
 ghost use Rattle.bd_device.specs.Device.{OnlyReads, HasImageCause};
 ghost use Rattle.bd_cache.specs.Cache.{kept_at};
+ghost use Rattle.bd_tails.specs.Tails.{AreTails};
 ghost use Rattle.bd_table.specs.Image.{HasNoTable};
 ghost use Rattle.bd_super.specs.Superblocks.{version_number};
 ghost use Rattle.bd_image.specs.Damage.{table_start};
@@ -23,6 +24,7 @@ use bd_entries::Entries;
 use bd_format::laws::images_are_decoded;
 use bd_pager::Pager;
 use bd_super::{Super, Version};
+use bd_tails::Tails;
 use bd_volume::{Fault, Refused, Volume};
 use std::alloc::Global;
 
@@ -67,7 +69,7 @@ pub fn check_recovered<D: Device>(
 }
 
 // How many nodes the superblock's table has, and what is wrong with them, by way of the pager,
-// which has read no node but the root.
+// which has read no node but the root, and knows then how much of the slots is used.
 fn check_table<D: Device>(
     alloc: Global,
     pager: &mut Pager<D>,
@@ -80,13 +82,19 @@ fn check_table<D: Device>(
     ensures told { IfSome (D.contents pager.old.dev)
         (λ image. IfOk result (λ r. IsTold image live.now r.0 r.1)) }
     ensures reads { OnlyReads D.Device pager.old.dev pager.new.dev }
-    ensures pager { pager.new ≡ record pager.old { dev = pager.new.dev; is_lent = false } }
+    ensures pager { pager.new ≡ record pager.old {
+      dev = pager.new.dev;
+      is_lent = false;
+      tails = pager.new.tails;
+    } }
     ensures cause { HasImageCause D.Device pager.old.dev pager.new.dev
         (λ b. (b ≡ table_start live.now) × IfSome (D.contents pager.old.dev)
         (λ image. HasNoTable image live.now.slots live.now.table)) result }
 {
-    let told = check_stored(alloc, pager.device(), live);
+    let mut tails = Tails::new(alloc, live.slots)?;
+    let told = check_stored(alloc, pager.device(), live, &mut tails);
     pager.take_back();
+    pager.learn(tails);
     told
 }
 
@@ -96,11 +104,14 @@ fn check_stored<D: Device>(
     alloc: Global,
     dev: &mut D,
     live: &Super,
+    tails: &mut Tails,
 ) -> Result<(u64, Option<Verdict>), ImageFault>
     requires place { IsTablePlace live.now.slots live.now.table }
     requires size { D.block_count dev.old ≡ image_blocks live.now.slots }
+    requires tails { AreTails (D.contents dev.old) tails.old }
     ensures told { IfSome (D.contents dev.old)
         (λ image. IfOk result (λ r. IsTold image live.now r.0 r.1)) }
+    ensures tails { AreTails (D.contents dev.new) tails.new }
     ensures reads { OnlyReads D.Device dev.old dev.new }
     ensures cause { HasImageCause D.Device dev.old dev.new
         (λ b. (b ≡ table_start live.now) × IfSome (D.contents dev.old)
@@ -110,7 +121,7 @@ fn check_stored<D: Device>(
         Ok(table) => table,
         Err(fault) => return Err(fault),
     };
-    match check_nodes(alloc, dev, live.slots, &table) {
+    match check_nodes(alloc, dev, &table, tails) {
         Ok(wrong) => Ok((table.entries.len() as u64, wrong)),
         Err(fault) => Err(fault),
     }

@@ -5,10 +5,14 @@ pub mod Cuts
 pub mod Joins
 pub mod Decided
 pub mod Falls
+pub mod Weights
 pub mod Changed
 pub mod Decisions
 pub mod Bared
 pub mod Barings
+pub mod Routed
+pub mod Passes
+pub mod Ways
 pub mod Passed
 pub mod Shrinks
 pub mod Trimmed

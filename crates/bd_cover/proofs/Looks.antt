@@ -25,12 +25,15 @@ use Rattle.bd_node.proofs.Parts.{edge_within}
 use Rattle.bd_path.proofs.EdgesAt.{edge_named}
 use Rattle.bd_cover.specs.declared.covering.Cover.{Cover}
 use Rattle.bd_cover.specs.declared.covering.Cover.TheVariants.{Gone, Elsewhere}
+use Rattle.bd_cover.specs.declared.walking.Look.{Look}
+use Rattle.bd_cover.specs.declared.walking.Look.TheVariants.{Change, Clean}
 use Rattle.bd_cover.specs.declared.walking.Reclaim.{Reclaim}
-use Rattle.bd_cover.specs.declared.walking.Reclaim.TheVariants.{Shrink, Drop, Redirect, Bare, Trim, Push}
+use Rattle.bd_cover.specs.declared.walking.Reclaim.TheVariants.{Shrink, Drop, Redirect, Pass, Bare, Trim, Push}
 use Rattle.bd_cover.specs.Bare.{HasChildAt, IsBareAt, HasNoBare}
 use Rattle.bd_cover.specs.Covering.{IsCovered, HasNoCovered, HasCut, HasNoCut, IsFirstCut}
+use Rattle.bd_cover.specs.Passing.{IsPassAt, HasNoPass, IsPassTo}
 use Rattle.bd_cover.specs.Trimming.{IsWalked, IsTrimWay, IsTrimAt, HasNoTrim}
-use Rattle.bd_cover.specs.Walking.{IsUnder, IsThinWay, IsThin, IsNoThinRoot, IsClean, IsFirstAt, HasNone, AreClean, IsDue, IsToDo, IsMadeAt, IsToDoAt, IsWayBetween, IsFoundFrom, IsFoundIn, IsBelow, HasNoneAbove}
+use Rattle.bd_cover.specs.Walking.{IsUnder, IsThinWay, IsThin, IsNoThinRoot, IsClean, IsFirstAt, IsNoPass, IsFirstIn, IsLook, IsKnownLook, HasNone, AreClean, IsDue, IsToDo, IsMadeAt, IsToDoAt, IsWayBetween, IsFoundFrom, IsFoundIn, IsBelow, HasNoneAbove}
 use Rattle.bd_cover.specs.Walking.IsUnder.{itself, through}
 use Rattle.bd_cover.specs.Walking.IsDue.{here, trim, bare, below}
 use Rattle.bd_cover.specs.Walking.IsWayBetween.{at_top}
@@ -93,6 +96,8 @@ to_do_first pushes t f (Drop node place at) fetched first none =
     (subst (λ (x : Fetched). IsFetched t x) (sym first.0) fetched, subst (λ (x : Fetched). IsCovered Gone x.node.value place at) (sym first.0) first.2.covered)
 to_do_first pushes t f (Redirect node place at) fetched first none =
     (subst (λ (x : Fetched). IsFetched t x) (sym first.0) fetched, subst (λ (x : Fetched). IsCovered Elsewhere x.node.value place at) (sym first.0) first.3.covered)
+to_do_first pushes t f (Pass node place edge) fetched first none =
+    (subst (λ (x : Fetched). IsFetched t x) (sym first.0) fetched, subst (λ (x : Fetched). IsPassTo t x.node.value place edge) (sym first.0) first.2)
 to_do_first pushes t f (Bare node place) fetched first none = absurd first
 to_do_first pushes t f (Trim node place) fetched first none = absurd first
 to_do_first pushes t f (Push above node place) fetched first none = (
@@ -108,23 +113,28 @@ pub found_in_here : (nodes : Nodes) (step : Reclaim) → HasNoneAbove step → I
 found_in_here nodes (Shrink child) none = tt
 found_in_here nodes (Drop node place at) none = tt
 found_in_here nodes (Redirect node place at) none = tt
+found_in_here nodes (Pass node place edge) none = tt
 found_in_here nodes (Bare node place) none = tt
 found_in_here nodes (Trim node place) none = tt
 found_in_here nodes (Push above node place) none = subst (λ (l : List Fetched). AllByRecursion (IsContents nodes) (reverse l)) (sym none) tt
 
-there_here : (pushes : Bool) (nodes : Nodes) (t : Table) (f : Fetched) (step : Reclaim) → nodes f.id ≡ Some f.node.value → IsPrivate nodes t f.id → IsFirstAt pushes t f step → IsMadeAt nodes t step
-there_here pushes nodes t f (Shrink child) there private first = (f.node.value, ap nodes (sym first.0) ∙ there, first.1)
-there_here pushes nodes t f (Drop node place at) there private first = subst (λ (x : Fetched). IsOwn nodes t x) (sym first.0) (record { private = private; there = there })
-there_here pushes nodes t f (Redirect node place at) there private first = subst (λ (x : Fetched). IsOwn nodes t x) (sym first.0) (record { private = private; there = there })
-there_here pushes nodes t f (Bare node place) there private first = absurd first
-there_here pushes nodes t f (Trim node place) there private first = absurd first
-there_here pushes nodes t f (Push above node place) there private first = subst (λ (x : Fetched). IsOwn nodes t x) (sym first.0) (record { private = private; there = there })
+there_here : (pushes : Bool) (nodes : Nodes) (t : Table) (f : Fetched) (step : Reclaim) → nodes f.id ≡ Some f.node.value → IsPrivate nodes t f.id → IsFirstAt pushes t f step → IsFirstIn nodes t f step → IsMadeAt nodes t step
+there_here pushes nodes t f (Shrink child) there private first own = (f.node.value, ap nodes (sym first.0) ∙ there, first.1)
+there_here pushes nodes t f (Drop node place at) there private first own = subst (λ (x : Fetched). IsOwn nodes t x) (sym first.0) (record { private = private; there = there })
+there_here pushes nodes t f (Redirect node place at) there private first own = subst (λ (x : Fetched). IsOwn nodes t x) (sym first.0) (record { private = private; there = there })
+there_here pushes nodes t f (Pass node place edge) there private first own = (
+  subst (λ (x : Fetched). IsOwn nodes t x) (sym first.0) (record { private = private; there = there }),
+  subst (λ (x : Fetched). IsPassAt nodes t x.node.value place edge) (sym first.0) own,
+)
+there_here pushes nodes t f (Bare node place) there private first own = absurd first
+there_here pushes nodes t f (Trim node place) there private first own = absurd first
+there_here pushes nodes t f (Push above node place) there private first own = subst (λ (x : Fetched). IsOwn nodes t x) (sym first.0) (record { private = private; there = there })
 
 there_below : (pushes : Bool) (nodes : Nodes) (t : Table) (step : Reclaim) (id : ℕ) → IsSound nodes t → IsPrivate nodes t id → IsDue pushes nodes t step id → IsMadeAt nodes t step
-there_below pushes nodes t step id sound private (here f there first) = there_here pushes nodes t f step there private first
-there_below pushes nodes t step id sound private (trim f place there clean at_place is) = subst (λ (s : Reclaim). IsMadeAt nodes t s) (sym is) (record { private = private; there = there }, at_place)
-there_below pushes nodes t step id sound private (bare f place there clean at_place is) = subst (λ (s : Reclaim). IsMadeAt nodes t s) (sym is) (record { private = private; there = there }, at_place)
-there_below pushes nodes t step id sound private (below _ place c n e there clean not_trim at_place walked due) =
+there_below pushes nodes t step id sound private (here f there first own) = there_here pushes nodes t f step there private first own
+there_below pushes nodes t step id sound private (trim f place there clean no_pass at_place is) = subst (λ (s : Reclaim). IsMadeAt nodes t s) (sym is) (record { private = private; there = there }, at_place)
+there_below pushes nodes t step id sound private (bare f place there clean no_pass at_place is) = subst (λ (s : Reclaim). IsMadeAt nodes t s) (sym is) (record { private = private; there = there }, at_place)
+there_below pushes nodes t step id sound private (below _ place c n e there clean no_pass not_trim at_place walked due) =
     there_below pushes nodes t step c sound
     (alone id c n private there (edge_named n place c e (node_of nodes t sound id n there).shape (record { here = at_place; child_is = walked.child_is })) walked.once) due
 
@@ -142,16 +152,16 @@ HasNoneAt pushes nodes t edges place e c = HasNone pushes nodes t c × (IsTrimWa
 abbrev pub HasNoneBefore : Bool → Nodes → Table → List Edge → ℕ → Type 0
 HasNoneBefore pushes nodes t edges place = (i c : ℕ) (e : Edge) → i < place → slice_get edges i ≡ Some e → IsWalked t e c → HasNoneAt pushes nodes t edges i e c
 
-none_under : (pushes : Bool) (nodes : Nodes) (t : Table) (x from : ℕ) → IsUnder nodes t x from → (n : Node) → nodes from ≡ Some n → IsClean pushes t from n → HasNoBare nodes n → HasNoneBefore pushes nodes t (edges_of n) (length (edges_of n)) → (m : Node) → nodes x ≡ Some m → IsClean pushes t x m × HasNoTrim nodes t m × HasNoBare nodes m
-none_under pushes nodes t x from itself n there clean no_bare before m at_x =
-    subst (λ (k : Node). IsClean pushes t x k × HasNoTrim nodes t k × HasNoBare nodes k) (same_Some n m (sym there ∙ at_x))
-    (clean, (λ place b. (before place b.trim.child b.edge (edge_within n place b.edge b.here) b.here b.trim.walked).1 b.trim), no_bare)
-none_under pushes nodes t x from (through _ place c k e at_from at_place walked rest) n there clean no_bare before m at_x =
+none_under : (pushes : Bool) (nodes : Nodes) (t : Table) (x from : ℕ) → IsUnder nodes t x from → (n : Node) → nodes from ≡ Some n → IsClean pushes t from n → HasNoPass nodes t n → HasNoBare nodes n → HasNoneBefore pushes nodes t (edges_of n) (length (edges_of n)) → (m : Node) → nodes x ≡ Some m → IsClean pushes t x m × HasNoTrim nodes t m × HasNoBare nodes m × HasNoPass nodes t m
+none_under pushes nodes t x from itself n there clean no_pass no_bare before m at_x =
+    subst (λ (k : Node). IsClean pushes t x k × HasNoTrim nodes t k × HasNoBare nodes k × HasNoPass nodes t k) (same_Some n m (sym there ∙ at_x))
+    (clean, (λ place b. (before place b.trim.child b.edge (edge_within n place b.edge b.here) b.here b.trim.walked).1 b.trim), no_bare, no_pass)
+none_under pushes nodes t x from (through _ place c k e at_from at_place walked rest) n there clean no_pass no_bare before m at_x =
     let own : IsEdgeAt n place e = subst (λ (i : Node). IsEdgeAt i place e) (same_Some k n (sym at_from ∙ there)) at_place in
     (before place c e (edge_within n place e own) own walked).0 x m rest at_x
 
-none_from : (pushes : Bool) (nodes : Nodes) (t : Table) (id : ℕ) (n : Node) → nodes id ≡ Some n → IsClean pushes t id n → HasNoBare nodes n → HasNoneBefore pushes nodes t (edges_of n) (length (edges_of n)) → HasNone pushes nodes t id
-none_from pushes nodes t id n there clean no_bare before x m under at_x = none_under pushes nodes t x id under n there clean no_bare before m at_x
+none_from : (pushes : Bool) (nodes : Nodes) (t : Table) (id : ℕ) (n : Node) → nodes id ≡ Some n → IsClean pushes t id n → HasNoPass nodes t n → HasNoBare nodes n → HasNoneBefore pushes nodes t (edges_of n) (length (edges_of n)) → HasNone pushes nodes t id
+none_from pushes nodes t id n there clean no_pass no_bare before x m under at_x = none_under pushes nodes t x id under n there clean no_pass no_bare before m at_x
 
 pub none_past : (pushes : Bool) (nodes : Nodes) (t : Table) (edges : List Edge) (place : ℕ) (e : Edge) → HasNoneBefore pushes nodes t edges place → slice_get edges place ≡ Some e → ((c : ℕ) → IsWalked t e c → HasNoneAt pushes nodes t edges place e c) → HasNoneBefore pushes nodes t edges (place + 1)
 none_past pushes nodes t edges place e before at_place none i c f low at_i walked =
@@ -167,19 +177,47 @@ none_past pushes nodes t edges place e before at_place none i c f low at_i walke
 pub none_of_child : (pushes : Bool) (nodes : Nodes) (t : Table) (edges : List Edge) (place : ℕ) (e : Edge) (child : ℕ) → IsWalked t e child → HasNone pushes nodes t child → (IsTrimWay nodes t e (end_after edges place) → ⊥) → (c : ℕ) → IsWalked t e c → HasNoneAt pushes nodes t edges place e c
 none_of_child pushes nodes t edges place e child walked none not_trim c other = (subst (λ (i : ℕ). HasNone pushes nodes t i) (same_Some child c (sym walked.child_is ∙ other.child_is)) none, not_trim)
 
-pub due_here : (pushes : Bool) (nodes : Nodes) (t : Table) (step : Reclaim) (id : ℕ) (f : Fetched) → f.id ≡ id → nodes id ≡ Some f.node.value → IsFirstAt pushes t f step → IsDue pushes nodes t step id
-due_here pushes nodes t step id f same there first = subst (λ (i : ℕ). IsDue pushes nodes t step i) same (here f (ap nodes same ∙ there) first)
+pub due_here : (pushes : Bool) (nodes : Nodes) (t : Table) (step : Reclaim) (id : ℕ) (f : Fetched) → f.id ≡ id → nodes id ≡ Some f.node.value → IsFirstAt pushes t f step → IsFirstIn nodes t f step → IsDue pushes nodes t step id
+due_here pushes nodes t step id f same there first own = subst (λ (i : ℕ). IsDue pushes nodes t step i) same (here f (ap nodes same ∙ there) first own)
 
-pub due_bare : (pushes : Bool) (nodes same_nodes : Nodes) (t : Table) (id : ℕ) (f clean : Fetched) (place : ℕ) → f.id ≡ id → nodes id ≡ Some f.node.value → clean ≡ f → same_nodes ≡ nodes → IsClean pushes t f.id f.node.value → IsBareAt same_nodes clean.node.value place → IsDue pushes nodes t (Bare clean place) id
-due_bare pushes nodes same_nodes t id f clean place same there same_f e_nodes is_clean at_place =
+pub no_pass_in : (nodes same_nodes : Nodes) (t same_t : Table) (n : Node) → same_nodes ≡ nodes → same_t ≡ t → HasNoPass same_nodes same_t n → HasNoPass nodes t n
+no_pass_in nodes same_nodes t same_t n e_nodes e_t none = subst (λ (u : Table). HasNoPass nodes u n) e_t (subst (λ (m : Nodes). HasNoPass m same_t n) e_nodes none)
+
+pub first_in_here : (nodes same_nodes : Nodes) (t same_t : Table) (f : Fetched) (step : Reclaim) → same_nodes ≡ nodes → same_t ≡ t → IsFirstIn same_nodes same_t f step → IsFirstIn nodes t f step
+first_in_here nodes same_nodes t same_t f step e_nodes e_t own = subst (λ (u : Table). IsFirstIn nodes u f step) e_t (subst (λ (m : Nodes). IsFirstIn m same_t f step) e_nodes own)
+
+pub own_first : (nodes : Nodes) (t : Table) (f : Fetched) (step : Reclaim) → IsNoPass step → IsFirstIn nodes t f step
+own_first nodes t f (Shrink child) other = tt
+own_first nodes t f (Drop node place at) other = tt
+own_first nodes t f (Redirect node place at) other = tt
+own_first nodes t f (Pass node place edge) other = absurd other
+own_first nodes t f (Bare node place) other = tt
+own_first nodes t f (Trim node place) other = tt
+own_first nodes t f (Push above node place) other = tt
+
+pub due_bare : (pushes : Bool) (nodes same_nodes : Nodes) (t : Table) (id : ℕ) (f clean : Fetched) (place : ℕ) → f.id ≡ id → nodes id ≡ Some f.node.value → clean ≡ f → same_nodes ≡ nodes → IsClean pushes t f.id f.node.value → HasNoPass nodes t f.node.value → IsBareAt same_nodes clean.node.value place → IsDue pushes nodes t (Bare clean place) id
+due_bare pushes nodes same_nodes t id f clean place same there same_f e_nodes is_clean no_pass at_place =
     subst (λ (i : ℕ). IsDue pushes nodes t (Bare clean place) i) same
-    (bare f place (ap nodes same ∙ there) is_clean (subst (λ (x : Fetched). IsBareAt nodes x.node.value place) same_f (subst (λ (m : Nodes). IsBareAt m clean.node.value place) e_nodes at_place)) (ap (λ (x : Fetched). Bare x place) same_f))
+    (bare f place (ap nodes same ∙ there) is_clean no_pass (subst (λ (x : Fetched). IsBareAt nodes x.node.value place) same_f (subst (λ (m : Nodes). IsBareAt m clean.node.value place) e_nodes at_place)) (ap (λ (x : Fetched). Bare x place) same_f))
 
 pub bare_to_do : (t : Table) (id : ℕ) (f clean : Fetched) (place : ℕ) → IsFetched t f → clean ≡ f → HasChildAt clean.node.value place → IsFoundFrom t id (Bare clean place)
 bare_to_do t id f clean place fetched same child = (subst (λ (x : Fetched). IsFetched t x) (sym same) fetched, child)
 
 pub clean_fetched : (t same_t : Table) (f clean : Fetched) → same_t ≡ t → clean ≡ f → IsFetched t f → IsFetched same_t clean
 clean_fetched t same_t f clean e_t same fetched = subst (λ (x : Fetched). IsFetched same_t x) (sym same) (subst (λ (u : Table). IsFetched u f) (sym e_t) fetched)
+
+-- what is seen at a node, by its kinds
+pub change_look : (pushes : Bool) (t : Table) (f : Fetched) (look : Look) (step : Reclaim) → look ≡ Change step → IsLook pushes t f look → IsFirstAt pushes t f step × HasNoneAbove step
+change_look pushes t f look step is h = subst (λ (l : Look). IsLook pushes t f l) is h
+
+pub change_known : (nodes : Nodes) (t : Table) (f : Fetched) (look : Look) (step : Reclaim) → look ≡ Change step → IsKnownLook nodes t f look → IsFirstIn nodes t f step
+change_known nodes t f look step is h = subst (λ (l : Look). IsKnownLook nodes t f l) is h
+
+pub clean_look : (pushes : Bool) (t : Table) (f : Fetched) (look : Look) (node : Fetched) → look ≡ Clean node → IsLook pushes t f look → (node ≡ f) × IsClean pushes t f.id f.node.value
+clean_look pushes t f look node is h = subst (λ (l : Look). IsLook pushes t f l) is h
+
+pub clean_known : (nodes : Nodes) (t : Table) (f : Fetched) (look : Look) (node : Fetched) → look ≡ Clean node → IsKnownLook nodes t f look → HasNoPass nodes t f.node.value
+clean_known nodes t f look node is h = subst (λ (l : Look). IsKnownLook nodes t f l) is h
 
 -- ---- on the walk
 
@@ -223,10 +261,10 @@ all_few t f clean shown es place fetched same shown_is edges low =
     omega (arith, low, long, few_edges f.node.value fetched.own.shape)
 
 pub due_trim : (pushes : Bool) (nodes : Nodes) (t : Table) (id : ℕ) (f clean : Fetched) (shown : Node) (es : List Edge) (place : ℕ) (e : Edge) → IsAtEdge t f clean shown es place e → f.id ≡ id → nodes id ≡ Some f.node.value → IsClean pushes t f.id f.node.value
-    → IsTrimWay nodes t e (end_after es place) → IsDue pushes nodes t (Trim clean place) id
-due_trim pushes nodes t id f clean shown es place e h same there is_clean way =
+    → HasNoPass nodes t f.node.value → IsTrimWay nodes t e (end_after es place) → IsDue pushes nodes t (Trim clean place) id
+due_trim pushes nodes t id f clean shown es place e h same there is_clean no_pass way =
     subst (λ (i : ℕ). IsDue pushes nodes t (Trim clean place) i) same
-    (trim f place (ap nodes same ∙ there) is_clean
+    (trim f place (ap nodes same ∙ there) is_clean no_pass
     (record { edge = e; here = edge_at t f clean shown es place e h; trim = subst (λ (o : Option (List ℕ)). IsTrimWay nodes t e o) (edge_end t f clean shown es place e h) way })
     (ap (λ (x : Fetched). Trim x place) h.same))
 
@@ -246,14 +284,14 @@ not_trim_at nodes t f clean shown es place e h none b =
     (subst (λ (x : Edge). IsTrimWay nodes t x (end_at f.node.value place)) (same_Some b.edge e (sym b.here ∙ edge_at t f clean shown es place e h)) b.trim))
 
 pub due_below : (pushes : Bool) (nodes : Nodes) (t : Table) (step : Reclaim) (id : ℕ) (f clean : Fetched) (shown : Node) (es : List Edge) (place : ℕ) (e : Edge) (c : ℕ) → IsAtEdge t f clean shown es place e → f.id ≡ id → nodes id ≡ Some f.node.value → IsClean pushes t f.id f.node.value
-    → (IsTrimWay nodes t e (end_after es place) → ⊥) → IsWalked t e c → IsDue pushes nodes t step c → IsDue pushes nodes t step id
-due_below pushes nodes t step id f clean shown es place e c h same there is_clean not_trim walked due =
-    below id place c f.node.value e there (subst (λ (i : ℕ). IsClean pushes t i f.node.value) same is_clean) (not_trim_at nodes t f clean shown es place e h not_trim) (edge_at t f clean shown es place e h) walked due
+    → HasNoPass nodes t f.node.value → (IsTrimWay nodes t e (end_after es place) → ⊥) → IsWalked t e c → IsDue pushes nodes t step c → IsDue pushes nodes t step id
+due_below pushes nodes t step id f clean shown es place e c h same there is_clean no_pass not_trim walked due =
+    below id place c f.node.value e there (subst (λ (i : ℕ). IsClean pushes t i f.node.value) same is_clean) no_pass (not_trim_at nodes t f clean shown es place e h not_trim) (edge_at t f clean shown es place e h) walked due
 
-pub none_at_end : (pushes : Bool) (nodes same_nodes : Nodes) (t : Table) (id : ℕ) (f clean : Fetched) (shown : Node) (es : List Edge) (place : ℕ) → clean ≡ f → shown ≡ clean.node.value → es ≡ edges_of shown → f.id ≡ id → nodes id ≡ Some f.node.value → IsClean pushes t f.id f.node.value → same_nodes ≡ nodes
+pub none_at_end : (pushes : Bool) (nodes same_nodes : Nodes) (t : Table) (id : ℕ) (f clean : Fetched) (shown : Node) (es : List Edge) (place : ℕ) → clean ≡ f → shown ≡ clean.node.value → es ≡ edges_of shown → f.id ≡ id → nodes id ≡ Some f.node.value → IsClean pushes t f.id f.node.value → HasNoPass nodes t f.node.value → same_nodes ≡ nodes
     → HasNoBare same_nodes clean.node.value → length es ≤ place → HasNoneBefore pushes nodes t es place → HasNone pushes nodes t id
-none_at_end pushes nodes same_nodes t id f clean shown es place same shown_is edges same_id there is_clean e_nodes no_bare long before =
-    none_from pushes nodes t id f.node.value there (subst (λ (i : ℕ). IsClean pushes t i f.node.value) same_id is_clean)
+none_at_end pushes nodes same_nodes t id f clean shown es place same shown_is edges same_id there is_clean no_pass e_nodes no_bare long before =
+    none_from pushes nodes t id f.node.value there (subst (λ (i : ℕ). IsClean pushes t i f.node.value) same_id is_clean) no_pass
     (subst (λ (x : Fetched). HasNoBare nodes x.node.value) same (subst (λ (m : Nodes). HasNoBare m clean.node.value) e_nodes no_bare))
     (subst (λ (l : List Edge). HasNoneBefore pushes nodes t l (length l)) (edges_are f clean shown es same shown_is edges)
     (λ i c e low at_i walked. before i c e (omega arith) at_i walked))
@@ -264,22 +302,33 @@ at_below : (pushes : Bool) (t : Table) (f g : Fetched) (step found : Reclaim) �
 at_below pushes t f g (Shrink child) found is first = subst (λ (s : Reclaim). IsFirstAt pushes t f s) (sym is) first
 at_below pushes t f g (Drop node place at) found is first = subst (λ (s : Reclaim). IsFirstAt pushes t f s) (sym is) first
 at_below pushes t f g (Redirect node place at) found is first = subst (λ (s : Reclaim). IsFirstAt pushes t f s) (sym is) first
+at_below pushes t f g (Pass node place edge) found is first = subst (λ (s : Reclaim). IsFirstAt pushes t f s) (sym is) first
 at_below pushes t f g (Bare node place) found is first = subst (λ (s : Reclaim). IsFirstAt pushes t f s) (sym is) first
 at_below pushes t f g (Trim node place) found is first = subst (λ (s : Reclaim). IsFirstAt pushes t f s) (sym is) first
 at_below pushes t f g (Push above node place) found is first = subst (λ (s : Reclaim). IsFirstAt pushes t f s) (sym is) first
 
+in_below : (nodes : Nodes) (t : Table) (f g : Fetched) (step found : Reclaim) → IsBelow g step found → IsFirstIn nodes t f step → IsFirstIn nodes t f found
+in_below nodes t f g (Shrink child) found is first = subst (λ (s : Reclaim). IsFirstIn nodes t f s) (sym is) first
+in_below nodes t f g (Drop node place at) found is first = subst (λ (s : Reclaim). IsFirstIn nodes t f s) (sym is) first
+in_below nodes t f g (Redirect node place at) found is first = subst (λ (s : Reclaim). IsFirstIn nodes t f s) (sym is) first
+in_below nodes t f g (Pass node place edge) found is first = subst (λ (s : Reclaim). IsFirstIn nodes t f s) (sym is) first
+in_below nodes t f g (Bare node place) found is first = subst (λ (s : Reclaim). IsFirstIn nodes t f s) (sym is) first
+in_below nodes t f g (Trim node place) found is first = subst (λ (s : Reclaim). IsFirstIn nodes t f s) (sym is) first
+in_below nodes t f g (Push above node place) found is first = subst (λ (s : Reclaim). IsFirstIn nodes t f s) (sym is) tt
+
 -- the nodes above don't tell which change is due
 pub due_found : (pushes : Bool) (nodes : Nodes) (t : Table) (g : Fetched) (step found : Reclaim) (id : ℕ) → IsBelow g step found → IsDue pushes nodes t step id → IsDue pushes nodes t found id
-due_found pushes nodes t g step found id is (here f there first) = here f there (at_below pushes t f g step found is first)
-due_found pushes nodes t g step found id is (trim f place there clean at_place own) = trim f place there clean at_place (subst (λ (s : Reclaim). IsBelow g s found) own is)
-due_found pushes nodes t g step found id is (bare f place there clean at_place own) = bare f place there clean at_place (subst (λ (s : Reclaim). IsBelow g s found) own is)
-due_found pushes nodes t g step found id is (below _ place c n e there clean not_trim at_place walked due) =
-    below id place c n e there clean not_trim at_place walked (due_found pushes nodes t g step found c is due)
+due_found pushes nodes t g step found id is (here f there first own) = here f there (at_below pushes t f g step found is first) (in_below nodes t f g step found is own)
+due_found pushes nodes t g step found id is (trim f place there clean no_pass at_place own) = trim f place there clean no_pass at_place (subst (λ (s : Reclaim). IsBelow g s found) own is)
+due_found pushes nodes t g step found id is (bare f place there clean no_pass at_place own) = bare f place there clean no_pass at_place (subst (λ (s : Reclaim). IsBelow g s found) own is)
+due_found pushes nodes t g step found id is (below _ place c n e there clean no_pass not_trim at_place walked due) =
+    below id place c n e there clean no_pass not_trim at_place walked (due_found pushes nodes t g step found c is due)
 
 pub found_below : (t : Table) (f : Fetched) (place : ℕ) (e : Edge) (c : ℕ) (step found : Reclaim) → IsFetched t f → IsEdgeAt f.node.value place e → IsWalked t e c → IsFoundFrom t c step → IsBelow f step found → IsFoundFrom t f.id found
 found_below t f place e c (Shrink child) found fetched asks walked h is = subst (λ (s : Reclaim). IsFoundFrom t f.id s) (sym is) h
 found_below t f place e c (Drop node i at) found fetched asks walked h is = subst (λ (s : Reclaim). IsFoundFrom t f.id s) (sym is) h
 found_below t f place e c (Redirect node i at) found fetched asks walked h is = subst (λ (s : Reclaim). IsFoundFrom t f.id s) (sym is) h
+found_below t f place e c (Pass node i edge) found fetched asks walked h is = subst (λ (s : Reclaim). IsFoundFrom t f.id s) (sym is) h
 found_below t f place e c (Bare node i) found fetched asks walked h is = subst (λ (s : Reclaim). IsFoundFrom t f.id s) (sym is) h
 found_below t f place e c (Trim node i) found fetched asks walked h is = subst (λ (s : Reclaim). IsFoundFrom t f.id s) (sym is) h
 found_below t f place e c (Push above node i) found fetched asks walked h is =
@@ -294,6 +343,7 @@ pub found_in_below : (nodes : Nodes) (f : Fetched) (step found : Reclaim) → no
 found_in_below nodes f (Shrink child) found there h is = subst (λ (s : Reclaim). IsFoundIn nodes s) (sym is) h
 found_in_below nodes f (Drop node place at) found there h is = subst (λ (s : Reclaim). IsFoundIn nodes s) (sym is) h
 found_in_below nodes f (Redirect node place at) found there h is = subst (λ (s : Reclaim). IsFoundIn nodes s) (sym is) h
+found_in_below nodes f (Pass node place edge) found there h is = subst (λ (s : Reclaim). IsFoundIn nodes s) (sym is) h
 found_in_below nodes f (Bare node place) found there h is = subst (λ (s : Reclaim). IsFoundIn nodes s) (sym is) h
 found_in_below nodes f (Trim node place) found there h is = subst (λ (s : Reclaim). IsFoundIn nodes s) (sym is) h
 found_in_below nodes f (Push above node place) found there h is =
@@ -347,6 +397,7 @@ pub found_to_do : (t : Table) (step : Reclaim) → IsFoundFrom t t.root step →
 found_to_do t (Shrink child) h = h
 found_to_do t (Drop node place at) h = h
 found_to_do t (Redirect node place at) h = h
+found_to_do t (Pass node place edge) h = h
 found_to_do t (Bare node place) h = h
 found_to_do t (Trim node place) h = h
 found_to_do t (Push above node place) h = (h.0, h.1, way_up t node.id (reverse above) h.2)
@@ -360,6 +411,7 @@ to_do_in : (nodes : Nodes) (t : Table) (step : Reclaim) → IsSound nodes t → 
 to_do_in nodes t (Shrink child) sound there to contents = (there, tt)
 to_do_in nodes t (Drop node place at) sound there to contents = (there, tt)
 to_do_in nodes t (Redirect node place at) sound there to contents = (there, tt)
+to_do_in nodes t (Pass node place edge) sound there to contents = (there, tt)
 to_do_in nodes t (Bare node place) sound there to contents = (there, tt)
 to_do_in nodes t (Trim node place) sound there to contents = (there, tt)
 to_do_in nodes t (Push above node place) sound there to contents = (there, way_own nodes t node.id (reverse above) sound to.2 contents)

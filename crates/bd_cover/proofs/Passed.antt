@@ -136,7 +136,7 @@ pub lower_id : (t : Table) (id here c : ℕ) → here ≡ id → t.level c < t.l
 lower_id t id here c same lower = subst (λ (i : ℕ). t.level c < t.level i) same lower
 
 pub below_more : (t same_t : Table) (id c place : ℕ) (old now then : ℕ → Bool) (first before tested after : ℕ) → same_t ≡ t → t.level c < t.level id → place + 1 ≤ edge_limit
-    → before + node_visits * count_among t old ≤ first + node_visits * count_among t now + 1 + place
+    → before + node_visits * count_among t old ≤ first + node_visits * count_among t now + (1 + edge_limit) + place
     → tested ≤ before + 1
     → after + node_visits * count_among same_t now ≤ tested + node_visits * count_among same_t then + first_visits * same_t.level c + node_visits
     → after + node_visits * count_among t old ≤ first + node_visits * count_among t then + first_visits * t.level id + node_visits
@@ -146,10 +146,10 @@ below_more t same_t id c place old now then first before tested after same lower
     omega (arith, own, one, here, lower, bound)
 
 pub below_once : (t same_t : Table) (place : ℕ) (found : Option Reclaim) (old now then : ℕ → Bool) (first before tested after : ℕ) → same_t ≡ t → found ≡ None
-    → before + node_visits * count_among t old ≤ first + node_visits * count_among t now + 1 + place
+    → before + node_visits * count_among t old ≤ first + node_visits * count_among t now + (1 + edge_limit) + place
     → tested ≤ before + 1
     → IfNone found (after + node_visits * count_among same_t now ≤ tested + node_visits * count_among same_t then)
-    → after + node_visits * count_among t old ≤ first + node_visits * count_among t then + 1 + (place + 1)
+    → after + node_visits * count_among t old ≤ first + node_visits * count_among t then + (1 + edge_limit) + (place + 1)
 below_once t same_t place found old now then first before tested after same none own one once =
     let here : after + node_visits * count_among t now ≤ tested + node_visits * count_among t then =
     subst (λ (u : Table). after + node_visits * count_among u now ≤ tested + node_visits * count_among u then) same

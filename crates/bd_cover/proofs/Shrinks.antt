@@ -1,7 +1,7 @@
 -- The commit that makes another node the root.
 use Rattle.std.proofs.Common.{◌≡◌, ℕ, Bool, zero, suc, ◌+◌, ◌<◌, ◌≤◌, List, [], ◌∷◌, ◌++◌, drop, refl, sym, ap, subst, ◌∙◌, Option, None, Some, arith, inl, inr, Result, Ok, Err}
 use Rattle.std.specs.Prelude.{OnOk}
-use Rattle.std.proofs.lemmas.Bool.{cases_eq, cases_lt, cases_Bool, cond-true, cond-false}
+use Rattle.std.proofs.lemmas.Bool.{cases_lt, cases_Bool, cond-true, cond-false}
 use Rattle.std.proofs.lemmas.Option.{none-some}
 use Rattle.bd_message.specs.declared.message.Message.{Message}
 use Rattle.bd_message.specs.Effect.{NodesAt, acts}
@@ -9,7 +9,7 @@ use Rattle.bd_node.specs.declared.node.Edge.{Edge}
 use Rattle.bd_node.specs.declared.node.Node.{Node}
 use Rattle.bd_node.specs.declared.node.Node.TheVariants.{Leaf, Inner}
 use Rattle.bd_node.specs.declared.node.Step.{Step}
-use Rattle.bd_node.specs.Nodes.{is_key, edge_of, child_at, edge_at, through, node_at}
+use Rattle.bd_node.specs.Nodes.{height_of, is_key, edge_of, child_at, edge_at, through, node_at}
 use Rattle.bd_message.specs.declared.fault.MapFault.{MapFault}
 use Rattle.bd_message.specs.KeyMaps.{HasMapCause}
 use Rattle.bd_message.proofs.Causes.{cause_after}
@@ -23,8 +23,9 @@ use Rattle.bd_node.proofs.Stepping.{touched_in, given-old, given-new, after-none
 use Rattle.bd_node.proofs.Closing.{stay_above}
 use Rattle.bd_cover.specs.Walking.{IsThinWay, IsThin}
 use Rattle.bd_path.specs.Flushed.{LeadsTo}
-use Rattle.bd_cover.specs.Reclaimed.{IsReclaimed, IsShrunk, root_only, left_in, left_over}
+use Rattle.bd_cover.specs.Reclaimed.{IsReclaimed, IsShrunk, root_only, weight_in, left_over}
 use Rattle.bd_cover.proofs.Falls.{sum_no_more}
+use Rattle.bd_cover.proofs.Weights.{each_no_heavier}
 
 -- ---- the step
 
@@ -120,20 +121,21 @@ shrink_reclaimed nodes t child new u h =
 shrink_shrunk : (nodes : Nodes) (t : Table) (child : ℕ) (new : Nodes) (u : Table) → IsToShrink nodes t child new u → IsShrunk nodes child new u
 shrink_shrunk nodes t child new u h = record { root = h.after.root; rest = rest_same nodes t child new u h.committed }
 
-none_more : (nodes : Nodes) (t : Table) (child : ℕ) (new : Nodes) (u : Table) → IsToShrink nodes t child new u → (id : ℕ) → left_in (new id) ≤ left_in (nodes id)
+none_more : (nodes : Nodes) (t : Table) (child : ℕ) (new : Nodes) (u : Table) → IsToShrink nodes t child new u → (id : ℕ) → weight_in new (new id) ≤ weight_in nodes (nodes id)
 none_more nodes t child new u h id =
-    elim (cases_eq (u.count id) 0) [
-      | inl gone ↦ (let none : left_in (new id) ≡ 0 = ap left_in (h.committed.sound.others id gone) in omega arith)
-      | inr kept ↦ (let is : left_in (new id) ≡ left_in (nodes id) = ap left_in (rest_same nodes t child new u h.committed id (omega arith)) in omega arith)
-    ]
+    let still : new child ≡ nodes child = rest_same nodes t child new u h.committed child (child_kept nodes t child new u h) in
+    let high : height_of (new child) ≡ height_of (nodes child) = ap height_of still in
+    let heavy : weight_in nodes (new child) ≡ weight_in nodes (nodes child) = ap (weight_in nodes) still in
+    each_no_heavier nodes new u child h.committed.sound (λ x kept other. rest_same nodes t child new u h.committed x kept) (omega (arith, high)) (omega (arith, heavy)) id
 
 shrink_falls : (nodes : Nodes) (t : Table) (child : ℕ) (new : Nodes) (u : Table) → IsToShrink nodes t child new u → left_over new u < left_over nodes t
 shrink_falls nodes t child new u h =
     let level : u.level u.root ≡ t.level child = child_level t child u h.after in
     let low : t.level child < t.level t.root = h.lower.lower in
-    let sums : sum_below t.next (λ id. left_in (new id)) ≤ sum_below t.next (λ id. left_in (nodes id)) =
-    sum_no_more t.next (λ id. left_in (nodes id)) (λ id. left_in (new id)) (λ id below. none_more nodes t child new u h id) in
-    let next : sum_below u.next (λ id. left_in (new id)) ≡ sum_below t.next (λ id. left_in (new id)) = ap (λ (i : ℕ). sum_below i (λ id. left_in (new id))) (shrink_next t child u h.after) in
+    let f : ℕ → ℕ = λ id. weight_in nodes (nodes id) in
+    let g : ℕ → ℕ = λ id. weight_in new (new id) in
+    let sums : sum_below t.next g ≤ sum_below t.next f = sum_no_more t.next f g (λ id below. none_more nodes t child new u h id) in
+    let next : sum_below u.next g ≡ sum_below t.next g = ap (λ (i : ℕ). sum_below i g) (shrink_next t child u h.after) in
     omega (arith, sums, next, level, low)
 
 -- ---- on success

@@ -1,5 +1,5 @@
 -- The step that changes a private node's child to what its edge asks of it.
-use Rattle.std.proofs.Common.{◌≡◌, ℕ, Bool, ◌+◌, ◌<◌, ◌≤◌, List, [], ◌∷◌, ◌++◌, drop, refl, sym, ap, subst, ◌∙◌, Option, None, Some, arith, rules, inl, inr, Result, Ok, Err, IsSome}
+use Rattle.std.proofs.Common.{◌≡◌, ℕ, suc, Bool, ◌+◌, ◌<◌, ◌≤◌, List, [], ◌∷◌, ◌++◌, drop, refl, sym, ap, subst, ◌∙◌, Option, None, Some, arith, rules, inl, inr, Result, Ok, Err, IsSome}
 use Rattle.std.specs.Prelude.{OnOk, OnErr}
 use Rattle.std.specs.List.{AllByRecursion, flat_map}
 use Rattle.std.specs.Option.{option_to_list}
@@ -19,7 +19,7 @@ use Rattle.bd_node.specs.declared.node.Step.{Step}
 use Rattle.bd_node.specs.declared.store.NodeStore.{Ghosts}
 use Rattle.bd_node.specs.Frames.{OnlyReads}
 use Rattle.bd_node.specs.Meaning.{Nodes, at as meaning}
-use Rattle.bd_node.specs.Nodes.{level_of, buffer_size, edge_names, message_names, names, times, child_at, node_at}
+use Rattle.bd_node.specs.Nodes.{level_of, height_of, buffer_size, edge_names, message_names, names, times, child_at, node_at}
 use Rattle.bd_node.specs.Parts.{edges_of, buffer_of, end_at, IsEdgeAt}
 use Rattle.bd_node.specs.Private.{IsPrivate}
 use Rattle.bd_node.specs.Private.IsPrivate.{root_alone, alone}
@@ -48,10 +48,11 @@ use Rattle.bd_path.proofs.OneSteps.{IsOneChange, lone, one_step, one_no_higher}
 use Rattle.bd_path.proofs.PathSteps.{given_child, given_upper, each_change, root_stays}
 use Rattle.bd_copy.specs.Narrowing.{asked_from, asked_end, narrowed_node, IsNarrowed}
 use Rattle.bd_copy.proofs.Copied.{IsAskedOf, IsChildRead, is_asking, copy_own, copy_has}
-use Rattle.bd_cover.specs.Reclaimed.{IsReclaimed, IsTrimmedAt, IsTrimStep, left_at, left_in, left_over}
+use Rattle.bd_cover.specs.Reclaimed.{IsReclaimed, IsTrimmedAt, IsTrimStep, height_sum, weight_at, weight_in, left_at, left_over}
 use Rattle.bd_cover.specs.Trimming.{IsTrimmed, IsTrimAt}
 use Rattle.bd_cover.proofs.Changed.{as_reclaimed, all_falls}
 use Rattle.bd_cover.proofs.Trimmed.{narrowed_once}
+use Rattle.bd_cover.proofs.Weights.{lighter_by_left, narrowed_heights}
 
 -- ---- as far as the table tells
 
@@ -460,13 +461,21 @@ trimmed_at known nodes t node place step new u m = record {
 falls : (known : Type 0) (nodes : Nodes) (t : Table) (node : Fetched) (place : ℕ) (step : Step) (new : Nodes) (u : Table) → IsTrimMade known nodes t node place step new u → left_over new u < left_over nodes t
 falls known nodes t node place step new u m =
     let c : ℕ = m.of.to.is.child.id in
-    let less : left_at m.of.to.is.made < left_at m.of.to.is.child.node.value = m.of.less in
-    let was : left_in (nodes c) ≡ left_at m.of.to.is.child.node.value = ap left_in m.of.there in
-    let is : left_in (new c) ≡ left_at m.of.to.is.made = ap left_in (child_there known nodes t node place step new u m) in
+    let n : Node = m.of.to.is.child.node.value in
+    let made : Node = m.of.to.is.made in
+    let there : new c ≡ Some made = child_there known nodes t node place step new u m in
+    let high : height_sum nodes made ≤ height_sum nodes n = narrowed_heights nodes (asked_from m.of.to.is.edge) (asked_end m.of.to.is.edge (end_at node.node.value place)) n made m.of.to.is.narrowed in
+    let less : weight_at nodes made < weight_at nodes n = lighter_by_left nodes n made m.of.less (omega (arith, high)) in
+    let was : weight_in nodes (nodes c) ≡ weight_at nodes n = ap (weight_in nodes) m.of.there in
+    let is : weight_in nodes (new c) ≡ weight_at nodes made = ap (weight_in nodes) there in
+    let was_high : height_of (nodes c) ≡ suc (level_of n) = ap height_of m.of.there in
+    let is_high : height_of (new c) ≡ suc (level_of made) = ap height_of there in
+    let level : level_of made ≡ level_of n = (made_own known nodes t node place step m.of.to).level_is ∙ sym m.of.to.is.fetched.own.level_is in
     let done : IsTableAfter t step u = subst (λ (q : Step). IsTableAfter t q u) (sym m.of.to.is.is) m.done in
     all_falls nodes t c new u
     (record {
       low = m.of.to.table.below c m.of.to.is.fetched.kept;
+      flat = omega (arith, was_high, is_high, level);
       less = omega (arith, less, was, is);
       rest = rest_same known nodes t node place step new u m;
       sound = m.committed.sound;

@@ -39,19 +39,19 @@ one_visit nodes t zero id before now few low = absurd (omega arith)
 one_visit nodes t (suc depth) id before now few low = omega (arith, few)
 
 -- at one more edge's child
-pub more_visits : (nodes : Nodes) (t : Table) (depth : ℕ) (es : List Edge) (place : ℕ) (e : Edge) (before now tested : ℕ) → place < length es → e ≡ get_or es place e → now ≤ before + 1 + place + node_visits * walked_before nodes t depth es place → tested ≤ now + 1 → tested ≤ before + 1 + (place + 1) + node_visits * walked_before nodes t depth es (place + 1)
+pub more_visits : (nodes : Nodes) (t : Table) (depth : ℕ) (es : List Edge) (place : ℕ) (e : Edge) (before now tested : ℕ) → place < length es → e ≡ get_or es place e → now ≤ before + (1 + edge_limit) + place + node_visits * walked_before nodes t depth es place → tested ≤ now + 1 → tested ≤ before + (1 + edge_limit) + (place + 1) + node_visits * walked_before nodes t depth es (place + 1)
 more_visits nodes t depth es place e before now tested low read few one =
     omega (arith, few, one, sum_by_more (λ (x : Edge). walked_at nodes t depth x) es place e low)
 
 -- and below a child
-pub child_visits : (nodes : Nodes) (t : Table) (depth : ℕ) (es : List Edge) (place : ℕ) (e : Edge) (c before now tested then : ℕ) → place < length es → e ≡ get_or es place e → IsWalked t e c → now ≤ before + 1 + place + node_visits * walked_before nodes t depth es place
-    → tested ≤ now + 1 → then ≤ tested + node_visits * walk_size nodes t depth c → then ≤ before + 1 + (place + 1) + node_visits * walked_before nodes t depth es (place + 1)
+pub child_visits : (nodes : Nodes) (t : Table) (depth : ℕ) (es : List Edge) (place : ℕ) (e : Edge) (c before now tested then : ℕ) → place < length es → e ≡ get_or es place e → IsWalked t e c → now ≤ before + (1 + edge_limit) + place + node_visits * walked_before nodes t depth es place
+    → tested ≤ now + 1 → then ≤ tested + node_visits * walk_size nodes t depth c → then ≤ before + (1 + edge_limit) + (place + 1) + node_visits * walked_before nodes t depth es (place + 1)
 child_visits nodes t depth es place e c before now tested then low read walked few one more =
     let own : walked_at nodes t depth (get_or es place e) ≡ walk_size nodes t depth c = ap (λ (x : Edge). walked_at nodes t depth x) (sym read) ∙ walked_is nodes t depth e c walked in
     omega (arith, few, one, more, own, sum_by_more (λ (x : Edge). walked_at nodes t depth x) es place e low)
 
 -- all in all, with those of the children that are looked at last
-pub all_visits : (nodes : Nodes) (t : Table) (depth id : ℕ) (n : Node) (es : List Edge) (place before now then : ℕ) → nodes id ≡ Some n → es ≡ edges_of n → t.level id < depth → place ≤ edge_limit → ((d : ℕ) → t.level id ≤ d → now ≤ before + 1 + place + node_visits * walked_before nodes t d es place) → then ≤ now + edge_limit * look_limit
+pub all_visits : (nodes : Nodes) (t : Table) (depth id : ℕ) (n : Node) (es : List Edge) (place before now then : ℕ) → nodes id ≡ Some n → es ≡ edges_of n → t.level id < depth → place ≤ edge_limit → ((d : ℕ) → t.level id ≤ d → now ≤ before + (1 + edge_limit) + place + node_visits * walked_before nodes t d es place) → then ≤ now + edge_limit * look_limit
     → then ≤ before + node_visits * walk_size nodes t depth id
 all_visits nodes t zero id n es place before now then there same low bound few last = absurd (omega arith)
 all_visits nodes t (suc depth) id n es place before now then there same low bound few last =

@@ -195,8 +195,8 @@ fn removes(message: &Message) -> bool
     matches!(message, Message::Del { .. } | Message::Cut { .. })
 }
 
-// The bytes of an end.
-fn end_slice(end: &Option<Bytes>) -> Option<&[u8]>
+/// The bytes of an end.
+pub fn end_slice(end: &Option<Bytes>) -> Option<&[u8]>
     ensures { option_copied result ≡ end.now }
 {
     match end {

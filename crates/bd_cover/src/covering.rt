@@ -123,8 +123,8 @@ fn touches_all(message: &Message, lo: &[u8], hi: Option<&[u8]>) -> bool
     }
 }
 
-// Whether each key that is at least `lo` and below `hi` begins with a prefix.
-fn is_common(prefix: &[u8], lo: &[u8], hi: Option<&[u8]>) -> bool
+/// Whether each key that is at least `lo` and below `hi` begins with a prefix.
+pub fn is_common(prefix: &[u8], lo: &[u8], hi: Option<&[u8]>) -> bool
     requires { IsBelowEnd lo.now (option_copied hi) }
     ensures { IsTrue result ↔ IsCommon lo.now (option_copied hi.entry) prefix.now }
 {

@@ -14,17 +14,19 @@ ghost use Rattle.bd_cover.specs.declared.covering.Cover.{Cover};
 ghost use Rattle.bd_cover.specs.Asked.{asks};
 ghost use Rattle.bd_cover.specs.Bare.{HasNothing, HasNoBare};
 ghost use Rattle.bd_cover.specs.Covering.{IsCovered, HasCut};
+ghost use Rattle.bd_cover.specs.Passing.{HasNoPass};
 ghost use Rattle.bd_cover.specs.Trimming.{HasNoTrim};
 ghost use Rattle.bd_cover.specs.Walking.{IsUnder, HasNone};
 
 /// Where no change is left, no message decides all keys of an edge that hasn't seen it, no child to
-/// which the walk goes has more than its edge asks it for, and no edge asks a child in which nothing
-/// stands, at any node that the walk comes to: the root is one.
+/// which the walk goes has more than its edge asks it for, no edge asks a child in which nothing
+/// stands, and none a child that only passes on what it is asked, at any node that the walk comes to:
+/// the root is one.
 pub fn walks_leave_nothing()
     ensures { (pushes : Bool) (nodes : Nodes) (t : Table) → HasNone pushes nodes t t.root
         → (id : ℕ) (n : Node) → IsUnder nodes t id t.root → nodes id ≡ Some n
         → ((cover : Cover) (place at : ℕ) → ¬ IsCovered cover n place at)
-        × HasNoTrim nodes t n × HasNoBare nodes n }
+        × HasNoTrim nodes t n × HasNoBare nodes n × HasNoPass nodes t n }
 {}
 
 /// Where pushes are asked for and no change is left, no Cut is pending for an edge, at any node

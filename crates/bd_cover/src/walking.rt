@@ -1,7 +1,8 @@
 //! The walk that looks for a change to make.
 
-ghost use Rattle.std.specs.Prelude.{◌≡◌, false, ℕ, ◌<◌, ◌≤◌, ◌+◌, ◌*◌, ⊤, IfOk, IfNone, IfSome, MatchOption, Some, nat_eq};
+ghost use Rattle.std.specs.Prelude.{◌≡◌, Bool, false, ℕ, ◌<◌, ◌≤◌, ◌+◌, ◌*◌, ⊤, IfOk, IfNone, IfSome, MatchOption, Some, nat_eq};
 ghost use Rattle.std.specs.HashSet.{contains};
+ghost use Rattle.bd_limits.specs.Limits.{edge_limit};
 ghost use Rattle.bd_message.specs.KeyMaps.{HasMapCause, NeverWorn};
 ghost use Rattle.bd_node.specs.Frames.{OfSound, OnlyReads};
 ghost use Rattle.bd_node.specs.declared.node.Node.{Node};
@@ -9,11 +10,12 @@ ghost use Rattle.bd_node.specs.Shape.{IsShape};
 ghost use Rattle.bd_node.specs.Tables.{IsKept, IsTable, kept_count};
 ghost use Rattle.bd_path.specs.Fetching.{IsFetched};
 ghost use Rattle.bd_cover.specs.Trimming.{IsWalked};
-ghost use Rattle.bd_cover.specs.Walking.{IsThinWay, IsThin, IsLook, IsEdgeLook, IsDue, HasNone, AreClean, AddsBelow, count_among, IsToDo, IsToDoAt, IsFoundFrom, IsFoundIn, IsBelow, walk_size, first_visits, node_visits};
+ghost use Rattle.bd_cover.specs.Walking.{IsThinWay, IsThin, IsLook, IsOwnLook, IsKnownLook, IsEdgeLook, IsClean, IsDue, HasNone, AreClean, AddsBelow, count_among, IsToDo, IsToDoAt, IsFoundFrom, IsFoundIn, IsBelow, walk_size, first_visits, node_visits};
 
 use crate::Cover;
 use crate::baring::bare_place;
 use crate::covering::{first_covered, first_cut};
+use crate::passing::pass_place;
 use crate::trimming::is_trimmed;
 use bd_message::MapFault;
 use bd_node::{Edge, Items, Node, NodeStore, end_of};
@@ -43,6 +45,14 @@ pub enum Reclaim {
         place: usize,
         at: usize,
     },
+    /// The child of the edge at the place of the node, an inner node, only passes on what the edge asks
+    /// it, by one of its own edges and with nothing that waits for these keys: from then on this edge
+    /// stands at the place, which asks the child of that one.
+    Pass {
+        node: Fetched,
+        place: usize,
+        edge: Edge,
+    },
     /// Nothing stands in the child of the edge at the place of the node at any key that the edge asks
     /// it for: the edge has no child from then on.
     Bare {
@@ -67,7 +77,8 @@ pub enum Reclaim {
 
 /// A change that is still to be made, and none exactly where there is none. The walk looks at the
 /// root, and at each inner node that an edge of such a node asks and that nothing else names: at what
-/// a node has itself first, then at each edge, in their order, whether its child, where the walk goes
+/// a node has itself first, then for edges that ask a child which only passes on what they ask it, then
+/// at each edge, in their order, whether its child, where the walk goes
 /// to it, has more than the edge asks for, and then below that edge, and last for edges that ask a
 /// child in which nothing stands. Pushes are passed over unless `pushes` asks for them. Nothing is
 /// changed.
@@ -75,7 +86,7 @@ pub enum Reclaim {
 /// this walk comes to so are put there, so that the next walk goes on where this one was. Such a walk
 /// doesn't test either whether one of them has more than its edge asks for. Where nothing else is
 /// left, `passed` is emptied and the walk begins anew, with each test; so `passed` says only where it
-/// is worth looking. At most 1,041 visits are had at each node of a walk, its own, one of each of at
+/// is worth looking. At most 1,057 visits are had at each node of a walk, its own, two of each of at
 /// most 16 children and 64 for each edge, and the walk comes to each node once, also where the counts
 /// are wrong and it would come to it again.
 pub fn reclaim_next<S: NodeStore>(
@@ -164,7 +175,8 @@ fn next_from<S: NodeStore>(
         return Ok(None);
     }
     let here = fetch(store, id)?;
-    let here = match look_at(alloc, store, here, pushes) {
+    let look = look_at(alloc, store, here, pushes)?;
+    let here = match look {
         Look::Change(step) => return Ok(Some(step)),
         Look::Clean(here) => here,
     };
@@ -214,10 +226,57 @@ enum Look {
     Clean(Fetched),
 }
 
-// What is seen at a node.
-fn look_at<S: NodeStore>(alloc: Global, store: &S, here: Fetched, pushes: bool) -> Look
+// What is seen at a node: for what it has itself, and then of its edges' children.
+fn look_at<S: NodeStore>(
+    alloc: Global,
+    store: &mut S,
+    here: Fetched,
+    pushes: bool,
+) -> Result<Look, MapFault>
+    requires table { IsTable (S.table store.old) }
+    requires fetched { IsFetched (S.table store.old) here }
+    ensures look { IfOk result (IsLook pushes (S.table store.old) here) }
+    ensures known { S.is_known store.old
+        → IfOk result (IsKnownLook (S.nodes store.old) (S.table store.old) here) }
+    ensures left { OnlyReads S.NodeStore store.old store.new }
+    ensures cause { HasMapCause (S.fault_count store.old) (S.fault_count store.new)
+        (S.last_failed store.new) (S.bad store.new) NeverWorn result }
+    ensures few_visits { S.visit_count store.new ≤ S.visit_count store.old + edge_limit }
+{
+    match look_own(alloc, store, here, pushes) {
+        Look::Change(step) => Ok(Look::Change(step)),
+        Look::Clean(here) => look_passed(alloc, store, here),
+    }
+}
+
+// What is seen at a node at which nothing is to be changed for what it has itself.
+fn look_passed<S: NodeStore>(alloc: Global, store: &mut S, here: Fetched) -> Result<Look, MapFault>
+    requires table { IsTable (S.table store.old) }
+    requires fetched { IsFetched (S.table store.old) here }
+    ensures look { (pushes : Bool) → IsClean pushes (S.table store.old) here.id here.node.value
+        → IfOk result (IsLook pushes (S.table store.old) here) }
+    ensures known { S.is_known store.old
+        → IfOk result (IsKnownLook (S.nodes store.old) (S.table store.old) here) }
+    ensures left { OnlyReads S.NodeStore store.old store.new }
+    ensures cause { HasMapCause (S.fault_count store.old) (S.fault_count store.new)
+        (S.last_failed store.new) (S.bad store.new) NeverWorn result }
+    ensures few_visits { S.visit_count store.new ≤ S.visit_count store.old + edge_limit }
+{
+    match pass_place(alloc, store, &here)? {
+        Some((place, edge)) => Ok(Look::Change(Reclaim::Pass {
+            node: here,
+            place,
+            edge,
+        })),
+        None => Ok(Look::Clean(here)),
+    }
+}
+
+// What is seen at a node for what it has itself.
+fn look_own<S: NodeStore>(alloc: Global, store: &S, here: Fetched, pushes: bool) -> Look
     requires { IsFetched (S.table store.now) here }
-    ensures { IsLook pushes (S.table store.now) here result }
+    ensures look { IsLook pushes (S.table store.now) here result }
+    ensures own { IsOwnLook result }
 {
     if here.id == store.root() {
         if let Some(child) = thin_child(store, &here) {
@@ -259,7 +318,8 @@ fn only_child(node: &Node) -> Option<u64>
 // What is seen at a node's edges.
 fn look_at_edges(alloc: Global, here: Fetched, pushes: bool) -> Look
     requires { IsShape here.node.value }
-    ensures { IsEdgeLook pushes here result }
+    ensures look { IsEdgeLook pushes here result }
+    ensures own { IsOwnLook result }
 {
     if let Some((place, at)) = first_covered(Cover::Gone, &here.node) {
         return Look::Change(Reclaim::Drop {

@@ -12,10 +12,10 @@ use Rattle.bd_node.specs.declared.node.Edge.{Edge}
 use Rattle.bd_node.specs.declared.node.Node.{Node}
 use Rattle.bd_node.specs.declared.node.Node.TheVariants.{Leaf, Inner}
 use Rattle.bd_node.specs.Meaning.{Nodes}
-use Rattle.bd_node.specs.Nodes.{edge_names, level_of}
+use Rattle.bd_node.specs.Nodes.{edge_names, level_of, height_of}
 use Rattle.bd_node.specs.Shape.{IsShape}
 use Rattle.bd_node.specs.Tables.{Table, IsStored, IsSound, kept_count, sum_below}
-use Rattle.bd_cover.specs.Reclaimed.{unseen_count, child_count, left_at, left_in, left_over}
+use Rattle.bd_cover.specs.Reclaimed.{unseen_count, child_count, left_at, child_height, height_sum, weight_at, weight_in, left_over}
 use Rattle.bd_engine.specs.Reclaiming.{most_left}
 
 message_some : (m : Message) → 1 ≤ size m
@@ -56,33 +56,61 @@ count_few (Inner level edges buffer) h = omega (arith, h.few, children_few edges
 left_few : (n : Node) → IsShape n → left_at n ≤ 1048592
 left_few n h = omega (arith, unseen_few n h, count_few n h)
 
-stored_few : (nodes : Nodes) (t : Table) (id : ℕ) → IsSound nodes t → left_in (nodes id) ≤ 1048592
+level_low : (n : Node) → IsShape n → level_of n ≤ 1000
+level_low (Leaf entries) h = omega arith
+level_low (Inner level edges buffer) h = h.high
+
+-- a child is no higher than 1,001
+height_low : (nodes : Nodes) (t : Table) (c : ℕ) → IsSound nodes t → height_of (nodes c) ≤ 1001
+height_low nodes t c h =
+    elim (cases_lt 0 (t.count c)) [
+      | inl kept ↦
+          let s : IsStored nodes t c = h.each c kept in
+          let is : height_of (nodes c) ≡ suc (level_of s.node) = ap height_of s.there in
+          omega (arith, is, level_low s.node s.of_table.shape)
+      | inr gone ↦
+          let is : height_of (nodes c) ≡ 0 = ap height_of (h.others c (omega arith)) in
+          omega (arith, is)
+    ]
+
+child_low : (nodes : Nodes) (t : Table) (o : Option ℕ) → IsSound nodes t → sum_by (λ (c : ℕ). height_of (nodes c)) (option_to_list o) ≤ 1001
+child_low nodes t None h = omega arith
+child_low nodes t (Some c) h = omega (arith, height_low nodes t c h, sum_by-cons (λ (x : ℕ). height_of (nodes x)) c [])
+
+heights_low : (nodes : Nodes) (t : Table) (es : List Edge) → IsSound nodes t → sum_by (child_height nodes) es ≤ length es * 1001
+heights_low nodes t [] h = omega arith
+heights_low nodes t (e ∷ es) h = omega (arith, child_low nodes t e.child h, heights_low nodes t es h, sum_by-cons (child_height nodes) e es)
+
+height_sum_low : (nodes : Nodes) (t : Table) (n : Node) → IsSound nodes t → IsShape n → height_sum nodes n ≤ 16016
+height_sum_low nodes t (Leaf entries) h shape = omega arith
+height_sum_low nodes t (Inner level edges buffer) h shape = omega (arith, shape.few, heights_low nodes t edges h)
+
+weight_few : (nodes : Nodes) (t : Table) (n : Node) → IsSound nodes t → IsShape n → weight_at nodes n ≤ 1050705200
+weight_few nodes t n h shape = omega (arith, left_few n shape, height_sum_low nodes t n h shape)
+
+stored_few : (nodes : Nodes) (t : Table) (id : ℕ) → IsSound nodes t → weight_in nodes (nodes id) ≤ 1050705200
 stored_few nodes t id h =
     elim (cases_lt 0 (t.count id)) [
       | inl kept ↦
           let s : IsStored nodes t id = h.each id kept in
-          let is : left_in (nodes id) ≡ left_at s.node = ap left_in s.there in
-          omega (arith, is, left_few s.node s.of_table.shape)
+          let is : weight_in nodes (nodes id) ≡ weight_at nodes s.node = ap (weight_in nodes) s.there in
+          omega (arith, is, weight_few nodes t s.node h s.of_table.shape)
       | inr gone ↦
-          let is : left_in (nodes id) ≡ 0 = ap left_in (h.others id (omega arith)) in
+          let is : weight_in nodes (nodes id) ≡ 0 = ap (weight_in nodes) (h.others id (omega arith)) in
           omega (arith, is)
     ]
 
 -- no more than so much for each kept node
-kept_few : (nodes : Nodes) (t : Table) (id : ℕ) → IsSound nodes t → (b : Bool) → nat_le 1 (t.count id) ≡ b → left_in (nodes id) ≤ cond b 1 0 * 1048592
+kept_few : (nodes : Nodes) (t : Table) (id : ℕ) → IsSound nodes t → (b : Bool) → nat_le 1 (t.count id) ≡ b → weight_in nodes (nodes id) ≤ cond b 1 0 * 1050705200
 kept_few nodes t id h true is = omega (arith, stored_few nodes t id h)
 kept_few nodes t id h false is =
-    let none : left_in (nodes id) ≡ 0 = ap left_in (h.others id (omega (arith, leb-false 1 (t.count id) is))) in
+    let none : weight_in nodes (nodes id) ≡ 0 = ap (weight_in nodes) (h.others id (omega (arith, leb-false 1 (t.count id) is))) in
     omega (arith, none)
 
-sum_few : (n : ℕ) (f k : ℕ → ℕ) → ((i : ℕ) → f i ≤ k i * 1048592) → sum_below n f ≤ sum_below n k * 1048592
+sum_few : (n : ℕ) (f k : ℕ → ℕ) → ((i : ℕ) → f i ≤ k i * 1050705200) → sum_below n f ≤ sum_below n k * 1050705200
 unfolding sum_below
 sum_few zero f k each = omega arith
 sum_few (suc n) f k each = omega (arith, each n, sum_few n f k each)
-
-level_low : (n : Node) → IsShape n → level_of n ≤ 1000
-level_low (Leaf entries) h = omega arith
-level_low (Inner level edges buffer) h = h.high
 
 root_low : (nodes : Nodes) (t : Table) → IsSound nodes t → t.level t.root ≤ 1000
 root_low nodes t h =
@@ -93,4 +121,4 @@ root_low nodes t h =
 pub left_low : (nodes : Nodes) (t : Table) → IsSound nodes t → left_over nodes t ≤ most_left t
 unfolding kept_count
 left_low nodes t h =
-    omega (arith, root_low nodes t h, sum_few t.next (λ id. left_in (nodes id)) (λ id. cond (nat_le 1 (t.count id)) 1 0) (λ id. kept_few nodes t id h (nat_le 1 (t.count id)) refl))
+    omega (arith, root_low nodes t h, sum_few t.next (λ id. weight_in nodes (nodes id)) (λ id. cond (nat_le 1 (t.count id)) 1 0) (λ id. kept_few nodes t id h (nat_le 1 (t.count id)) refl))

@@ -20,7 +20,12 @@ abbrev pub IsWornToChange : {D : Type 0} → Ghosts D → Paged D → Reclaim �
 IsWornToChange g p change = IsWornChange (is_known g p × IsSound (nodes_of g p) (table_of p))
     (nodes_of g p) (table_of p) change
 
--- how much may be left to change in sound nodes: for each of them what its edges allow, each twice
--- as many messages as may wait in the node and a child, and the greatest level
+-- how much may be left for an edge: what the messages that may wait in its node and its child allow,
+-- and how high the child may be
+abbrev pub most_at_edge : ℕ
+most_at_edge = (level_limit + 2) * (2 * buffer_limit + 1) + level_limit + 1
+
+-- how much may be left to change in sound nodes: for each of them what its edges allow, and the
+-- greatest level
 abbrev pub most_left : Table → ℕ
-most_left t = kept_count t * (edge_limit * (2 * buffer_limit + 1)) + level_limit
+most_left t = kept_count t * (edge_limit * most_at_edge) + level_limit

@@ -45,6 +45,7 @@ use bd_io::Failed;
 use bd_message::MapFault;
 use bd_node::{Messages, Node};
 use bd_table::Table;
+use bd_tails::Tails;
 use std::alloc::Global;
 use std::marker::Model;
 use std::rc::Rc;
@@ -482,6 +483,15 @@ impl<D: Device> Pager<D> {
         ensures { self.new ≡ record self.old { is_lent = false } }
     {
         self.reader.is_lent = false;
+    }
+
+    /// Tells it how many of each slot's first blocks may have other bytes than zeros, in place of
+    /// what it knew of that. It makes no call of the device.
+    pub fn learn(&mut self, tails: Tails)
+        requires { AreTails (D.contents self.old.dev) tails }
+        ensures { self.new ≡ record self.old { tails = tails } }
+    {
+        self.reader.tails = tails;
     }
 }
 

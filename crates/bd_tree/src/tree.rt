@@ -281,7 +281,7 @@ impl<S: NodeStore> Tree<S> {
     /// are passed over unless `pushes` asks for them. The nodes in `passed` are passed over first, and
     /// it gets those at and below which nothing was found, for the next call: it says only where it is
     /// worth looking. Only the root and inner nodes that nothing else names are looked at, each at most
-    /// twice, with at most 1,041 visits.
+    /// twice, with at most 1,057 visits.
     pub fn reclaim_next(
         &mut self,
         passed: &mut HashSet<u64>,

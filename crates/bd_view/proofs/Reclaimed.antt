@@ -5,11 +5,12 @@ use Rattle.std.specs.Prelude.{Some}
 use Rattle.bd_node.specs.declared.node.Node.{Node}
 use Rattle.bd_cover.specs.declared.covering.Cover.TheVariants.{Gone}
 use Rattle.bd_cover.specs.Bare.{HasNoBare}
+use Rattle.bd_cover.specs.Passing.{HasNoPass}
 use Rattle.bd_cover.specs.Trimming.{HasNoTrim}
 use Rattle.bd_cover.specs.Covering.{HasNoCovered}
 use Rattle.bd_cover.specs.Walking.IsUnder.{itself}
 use Rattle.bd_cover.specs.declared.walking.Reclaim.{Reclaim}
-use Rattle.bd_cover.specs.declared.walking.Reclaim.TheVariants.{Shrink, Drop, Redirect, Bare, Trim, Push}
+use Rattle.bd_cover.specs.declared.walking.Reclaim.TheVariants.{Shrink, Drop, Redirect, Pass, Bare, Trim, Push}
 use Rattle.bd_view.specs.Views.{View, changed_count, free_slots}
 use Rattle.bd_view.specs.Moves.{saved_view}
 use Rattle.bd_view.specs.Reclaiming.{HasRoomFor, IsReclaim, IsReclaimFull, edge_need}
@@ -51,12 +52,33 @@ pub reclaim_trim : (old new : View) (n : Node) → IsReclaim old new → new.tre
 reclaim_trim old new n h there =
     subst (λ (v : View). HasNoTrim v.tree.nodes v.tree.table n) (sym h.ends.after) (trim_saved h.last n (h.whole h.last.tree.table.root n itself (root_before old new n h there)).1)
 
+-- nor does it which edges ask a child that only passes on what they ask
+pass_saved : (v : View) (n : Node) → HasNoPass v.tree.nodes v.tree.table n → HasNoPass (saved_view v).tree.nodes (saved_view v).tree.table n
+pass_saved v n none place made b =
+    none place made (record {
+      edge = b.edge;
+      here = b.here;
+      pass = record {
+        ask = b.pass.ask;
+        asked = b.pass.asked;
+        inner = b.pass.inner;
+        node = b.pass.node;
+        there = b.pass.there;
+        passed = b.pass.passed;
+      };
+    })
+
+pub reclaim_pass : (old new : View) (n : Node) → IsReclaim old new → new.tree.nodes new.tree.table.root ≡ Some n → HasNoPass new.tree.nodes new.tree.table n
+reclaim_pass old new n h there =
+    subst (λ (v : View). HasNoPass v.tree.nodes v.tree.table n) (sym h.ends.after) (pass_saved h.last n (h.whole h.last.tree.table.root n itself (root_before old new n h there)).3)
+
 -- ---- where it is refused
 
 edge_short : (step : Reclaim) (v : View) → (HasRoomFor step v → ⊥) → free_slots v < edge_need v
 edge_short (Shrink child) v short = absurd (short tt)
 edge_short (Drop node place at) v short = elim (cases_lt (free_slots v) (edge_need v)) [ inl few ↦ few | inr room ↦ absurd (short room) ]
 edge_short (Redirect node place at) v short = elim (cases_lt (free_slots v) (edge_need v)) [ inl few ↦ few | inr room ↦ absurd (short room) ]
+edge_short (Pass node place made) v short = elim (cases_lt (free_slots v) (edge_need v)) [ inl few ↦ few | inr room ↦ absurd (short room) ]
 edge_short (Bare node place) v short = elim (cases_lt (free_slots v) (edge_need v)) [ inl few ↦ few | inr room ↦ absurd (short room) ]
 edge_short (Trim node place) v short = elim (cases_lt (free_slots v) (edge_need v)) [ inl few ↦ few | inr room ↦ absurd (short room) ]
 edge_short (Push above node place) v short = absurd (short tt)

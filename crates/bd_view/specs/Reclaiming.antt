@@ -1,7 +1,7 @@
 -- How reclaiming moves the view of a volume on a device.
 use Rattle.std.specs.Prelude.{◌≡◌, ℕ, ◌+◌, ◌≤◌, ◌&&◌, nat_le, nat_lt, Bool, ⊤}
 use Rattle.bd_cover.specs.declared.walking.Reclaim.{Reclaim}
-use Rattle.bd_cover.specs.declared.walking.Reclaim.TheVariants.{Shrink, Drop, Redirect, Bare, Trim, Push}
+use Rattle.bd_cover.specs.declared.walking.Reclaim.TheVariants.{Shrink, Drop, Redirect, Pass, Bare, Trim, Push}
 use Rattle.bd_cover.specs.Walking.{IsDue, HasNone}
 use Rattle.bd_cover.specs.Reclaimed.{IsReclaimed}
 use Rattle.bd_reclaim.specs.Changes.{IsReclaimMade}
@@ -10,7 +10,7 @@ use Rattle.bd_view.specs.Moves.{OnlyNodes, Saves, IsCheckpointFull, CannotSave}
 
 -- the pushes of one reclaiming
 abbrev pub push_limit : ℕ
-push_limit = 4096
+push_limit = 65536
 
 -- how many slots have to be free for an edge that loses its child, or is sent to another one, and
 -- for a child that loses what its edge doesn't ask for
@@ -30,6 +30,7 @@ abbrev pub HasRoomFor : Reclaim → View → Type 0
 HasRoomFor (Shrink child) v = ⊤
 HasRoomFor (Drop node place at) v = edge_need v ≤ free_slots v
 HasRoomFor (Redirect node place at) v = edge_need v ≤ free_slots v
+HasRoomFor (Pass node place edge) v = edge_need v ≤ free_slots v
 HasRoomFor (Bare node place) v = edge_need v ≤ free_slots v
 HasRoomFor (Trim node place) v = edge_need v ≤ free_slots v
 HasRoomFor (Push above node place) v = ⊤
@@ -39,6 +40,7 @@ abbrev pub pushes_in : Reclaim → ℕ
 pushes_in (Shrink child) = 0
 pushes_in (Drop node place at) = 0
 pushes_in (Redirect node place at) = 0
+pushes_in (Pass node place edge) = 0
 pushes_in (Bare node place) = 0
 pushes_in (Trim node place) = 0
 pushes_in (Push above node place) = 1

@@ -13,6 +13,7 @@ ghost use Rattle.bd_node.specs.Tables.{Table, IsKept, kept_count};
 ghost use Rattle.bd_node.specs.declared.node.Node.{Node};
 ghost use Rattle.bd_cover.specs.declared.covering.Cover.TheVariants.{Gone};
 ghost use Rattle.bd_cover.specs.Bare.{HasNoBare};
+ghost use Rattle.bd_cover.specs.Passing.{HasNoPass};
 ghost use Rattle.bd_cover.specs.Trimming.{HasNoTrim};
 ghost use Rattle.bd_cover.specs.Covering.{HasNoCovered};
 ghost use Rattle.bd_log.specs.Batches.{IsLogRecord};
@@ -133,9 +134,10 @@ pub fn new_views_are_quiet()
 }
 
 /// After reclaiming no node is changed, no edge of the root has a pending Cut that covers all its
-/// keys, none has a child in which there is nothing for it, and none asks, with nothing in front of a
-/// key, an inner node that nothing else names and that has more than the edge asks for. It is refused
-/// only where fewer slots are free than it needs.
+/// keys, none has a child in which there is nothing for it, none asks, with nothing in front of a
+/// key, an inner node that nothing else names and that has more than the edge asks for, and none asks
+/// an inner node that only passes on what it asks. It is refused only where fewer slots are free than
+/// it needs.
 pub fn reclaiming_leaves_no_cover()
     ensures changed { (old new : View) → IsReclaim old new → changed_count new ≡ 0 }
     ensures root { (old new : View) (n : Node) → IsReclaim old new
@@ -145,6 +147,9 @@ pub fn reclaiming_leaves_no_cover()
     ensures trim { (old new : View) (n : Node) → IsReclaim old new
         → new.tree.nodes new.tree.table.root ≡ Some n
         → HasNoTrim new.tree.nodes new.tree.table n }
+    ensures pass { (old new : View) (n : Node) → IsReclaim old new
+        → new.tree.nodes new.tree.table.root ≡ Some n
+        → HasNoPass new.tree.nodes new.tree.table n }
     ensures short { (old new : View) (free need : ℕ) → IsReclaimFull old free need new
         → (free ≡ free_slots new) × (free < need) }
 {}

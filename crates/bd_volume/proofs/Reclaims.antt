@@ -12,7 +12,7 @@ use Rattle.bd_node.specs.Meaning.{Nodes}
 use Rattle.bd_node.specs.Steps.{IsWornBy}
 use Rattle.bd_node.specs.Tables.{Table, IsSound}
 use Rattle.bd_cover.specs.declared.walking.Reclaim.{Reclaim}
-use Rattle.bd_cover.specs.declared.walking.Reclaim.TheVariants.{Shrink, Drop, Redirect, Bare, Trim, Push}
+use Rattle.bd_cover.specs.declared.walking.Reclaim.TheVariants.{Shrink, Drop, Redirect, Pass, Bare, Trim, Push}
 use Rattle.bd_cover.specs.Reclaimed.{left_over, root_only}
 use Rattle.bd_reclaim.specs.Changes.{IsWornChange, LeavesLess}
 use Rattle.bd_cover.specs.Walking.{IsDue, IfPush}
@@ -43,12 +43,13 @@ pushes_asked : (pushes : Bool) (nodes : Nodes) (t : Table) (step : Reclaim) (id 
 pushes_asked pushes nodes t (Shrink child) id due some = absurd (omega (arith, some))
 pushes_asked pushes nodes t (Drop node place at) id due some = absurd (omega (arith, some))
 pushes_asked pushes nodes t (Redirect node place at) id due some = absurd (omega (arith, some))
+pushes_asked pushes nodes t (Pass node place edge) id due some = absurd (omega (arith, some))
 pushes_asked pushes nodes t (Bare node place) id due some = absurd (omega (arith, some))
 pushes_asked pushes nodes t (Trim node place) id due some = absurd (omega (arith, some))
-pushes_asked pushes nodes t (Push above node place) _ (here f there at) some = at.4
-pushes_asked pushes nodes t (Push above node place) _ (trim f at there clean is_trim is) some = cc
-pushes_asked pushes nodes t (Push above node place) _ (bare f at there clean is_bare is) some = cc
-pushes_asked pushes nodes t (Push above node place) _ (below i p c n e there clean not_trim edge walked due) some = pushes_asked pushes nodes t (Push above node place) c due some
+pushes_asked pushes nodes t (Push above node place) _ (here f there at own) some = at.4
+pushes_asked pushes nodes t (Push above node place) _ (trim f at there clean no_pass is_trim is) some = cc
+pushes_asked pushes nodes t (Push above node place) _ (bare f at there clean no_pass is_bare is) some = cc
+pushes_asked pushes nodes t (Push above node place) _ (below i p c n e there clean no_pass not_trim edge walked due) some = pushes_asked pushes nodes t (Push above node place) c due some
 
 next_pushes : (before : ℕ) (step : Reclaim) (v : View) → IsDueChange before step v → 1 ≤ pushes_in step → before < push_limit
 next_pushes before step v next some =
@@ -58,6 +59,7 @@ push_few : (step : Reclaim) → pushes_in step ≤ 1
 push_few (Shrink child) = omega arith
 push_few (Drop node place at) = omega arith
 push_few (Redirect node place at) = omega arith
+push_few (Pass node place edge) = omega arith
 push_few (Bare node place) = omega arith
 push_few (Trim node place) = omega arith
 push_few (Push above node place) = omega arith
@@ -109,6 +111,7 @@ made_less : (step : Reclaim) (count before after lo ln fo fn most : ℕ) → IfP
 made_less (Shrink child) count before after lo ln fo fn most less is unpushed low h = omega (arith, less, low, h)
 made_less (Drop node place at) count before after lo ln fo fn most less is unpushed low h = omega (arith, less, low, h)
 made_less (Redirect node place at) count before after lo ln fo fn most less is unpushed low h = omega (arith, less, low, h)
+made_less (Pass node place edge) count before after lo ln fo fn most less is unpushed low h = omega (arith, less, low, h)
 made_less (Bare node place) count before after lo ln fo fn most less is unpushed low h = omega (arith, less, low, h)
 made_less (Trim node place) count before after lo ln fo fn most less is unpushed low h = omega (arith, less, low, h)
 made_less (Push above node place) count before after lo ln fo fn most less is unpushed low h = absurd (unpushed (omega (arith, is)))
@@ -183,6 +186,7 @@ never_by_change : (K : Type 0) (nodes : Nodes) (t : Table) (step : Reclaim) (whi
 never_by_change K nodes t (Shrink child) which unworn other h = unworn (root_only child) h
 never_by_change K nodes t (Drop node place at) which unworn other h = unworn h.step h.worn
 never_by_change K nodes t (Redirect node place at) which unworn other h = unworn h.step h.worn
+never_by_change K nodes t (Pass node place edge) which unworn other h = unworn h.step h.worn
 never_by_change K nodes t (Bare node place) which unworn other h = unworn h.step h.worn
 never_by_change K nodes t (Trim node place) which unworn other h = unworn h.step h.worn
 never_by_change K nodes t (Push above node place) which unworn other h =
@@ -196,6 +200,7 @@ worn_where : (K L : Type 0) (nodes : Nodes) (t : Table) (step : Reclaim) (which 
 worn_where K L nodes t (Shrink child) which knows h = h
 worn_where K L nodes t (Drop node place at) which knows h = h
 worn_where K L nodes t (Redirect node place at) which knows h = h
+worn_where K L nodes t (Pass node place edge) which knows h = h
 worn_where K L nodes t (Bare node place) which knows h = h
 worn_where K L nodes t (Trim node place) which knows h = record {
   step = h.step;
@@ -228,6 +233,22 @@ look_fails m n last bad pushes v map.DeviceFault good h = tt
 look_fails m n last bad pushes v (map.Damaged block) good h = good block h
 look_fails m n last bad pushes v (map.Worn which) good h = absurd h
 look_fails m n last bad pushes v map.NoMemory good h = tt
+
+-- no checkpoint could be made for it
+pub save_fails : (pushes : ℕ) (step : Reclaim) (a b : View) (fault : Fault) → b ≡ a → IsDueChange pushes step a → (HasRoomFor step a → ⊥) → IsEdgeSaveFault fault b → IsChangeFault fault pushes b
+save_fails pushes step a b Device same next short h = tt
+save_fails pushes step a b (Damaged block) same next short h = h
+save_fails pushes step a b (Worn which) same next short h = subst (λ (w : Counter). IsWornToReclaim w b) (sym h.0) h.1
+save_fails pushes step a b NoMemory same next short h = tt
+save_fails pushes step a b (Full free need) same next short h = record {
+  change = step;
+  next = subst (λ (v : View). IsDueChange pushes step v) (sym same) next;
+  short = subst (λ (v : View). HasRoomFor step v → ⊥) (sym same) short;
+  free_is = h.0;
+  need_is = h.1;
+  unsaved = h.2;
+}
+save_fails pushes step a b (Stopped call) same next short h = h
 
 -- it couldn't be made
 pub change_fails : (K : Type 0) (m n : ℕ) (last : Bool) (bad : ℕ → Type 0) (pushes : ℕ) (step : Reclaim) (a b : View) (fault : MapFault) → ((block : ℕ) → bad block → ⊥) → (IsSound a.tree.nodes a.tree.table → K) → IsDueChange pushes step a → b ≡ a

@@ -337,7 +337,7 @@ impl<D: Device> Volume<D> {
 
     /// Gives back the nodes that nothing needs any more: makes a checkpoint; then changes of the
     /// nodes along the edges that pending messages cut or cover, or whose child has nothing for them,
-    /// until none is left or 4,096 pushes were made, with checkpoints between where too few slots are
+    /// until none is left or 65,536 pushes were made, with checkpoints between where too few slots are
     /// free; and a last checkpoint. What the volume stands for stays, and what stands at the keys of
     /// sound nodes where that is no tree, also at a fault, which leaves the changes that were made. It
     /// ends in unsound nodes too: after at most `2 * most_left + 2` changes and checkpoints up to each

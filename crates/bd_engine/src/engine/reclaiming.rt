@@ -17,9 +17,14 @@ use bd_limits::{MAX_BUFFER, MAX_EDGES, MAX_LEVEL};
 use bd_message::MapFault;
 use std::collections::HashSet;
 
-// How much may be left to change at a node: for each edge twice what waits in the node, and its
-// child.
-const LEFT_IN_NODE: u128 = MAX_EDGES as u128 * (2 * MAX_BUFFER as u128 + 1);
+// How much may be left for an edge: twice what waits in its node and its child, each so often that
+// the height of another child doesn't count, and how high the child is.
+const LEFT_AT_EDGE: u128 = (MAX_LEVEL as u128 + 2) * (2 * MAX_BUFFER as u128 + 1)
+    + MAX_LEVEL as u128
+    + 1;
+
+// How much may be left to change at a node.
+const LEFT_IN_NODE: u128 = MAX_EDGES as u128 * LEFT_AT_EDGE;
 
 // How many slots the change of an edge may need.
 const EDGE_SLOTS: u64 = 4;
@@ -99,7 +104,7 @@ impl<D: Device> Engine<D> {
         ensures value { result ≡ most_left (table_of self.now.pager) }
         ensures most { IsSoundOn D.Device self.now → left_over (nodes_of D.Device self.now.pager)
             (table_of self.now.pager) ≤ result }
-        ensures small { result < 2 ^ 90 }
+        ensures small { result < 2 ^ 100 }
     {
         let kept = self.tree.map.store().kept();
         u128::from(kept) * LEFT_IN_NODE + u128::from(MAX_LEVEL)

@@ -22,7 +22,7 @@ use bd_device::Device;
 use std::collections::HashSet;
 
 // The most pushes of one reclaiming.
-const MAX_PUSHES: u64 = 4_096;
+const MAX_PUSHES: u64 = 65_536;
 
 impl<D: Device> Volume<D> {
     // Reclaims, where the volume wasn't stopped.
@@ -50,7 +50,7 @@ impl<D: Device> Volume<D> {
     }
 
     // Makes changes of reclaiming until none is left, with a checkpoint before one for which too few
-    // slots are free. A fault leaves those that were made. It goes from push to push, at most 4,097
+    // slots are free. A fault leaves those that were made. It goes from push to push, at most 65,537
     // times: in sound nodes none is left before. The nodes that were passed are handed on from change
     // to change, so that each is looked for from where the one before it was found.
     fn change_all(&mut self) -> Result<(), Fault>
@@ -254,6 +254,7 @@ impl<D: Device> Volume<D> {
             Reclaim::Shrink { .. } | Reclaim::Push { .. } => true,
             Reclaim::Drop { .. }
             | Reclaim::Redirect { .. }
+            | Reclaim::Pass { .. }
             | Reclaim::Bare { .. }
             | Reclaim::Trim { .. } => self.engine.edge_need() <= self.engine.free(),
         }
@@ -269,6 +270,7 @@ fn pushes_after(pushes: u64, change: &Reclaim) -> u64
         Reclaim::Shrink { .. }
         | Reclaim::Drop { .. }
         | Reclaim::Redirect { .. }
+        | Reclaim::Pass { .. }
         | Reclaim::Bare { .. }
         | Reclaim::Trim { .. } => pushes,
     }

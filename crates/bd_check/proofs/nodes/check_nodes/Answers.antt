@@ -11,7 +11,7 @@ returns-in-Some-wrong-clause-found g c =
     let t = c.args.table.now in
     let none : c.in_ok-block.field-0 ≡ None = cc in
     let seen = subst (λ (o : Option ℕ). IfNone o (Sees known t (ids_of t.entries) c.read_nodes.new.owed)) none c.in_ok-block.ensures.seen in
-    wrong_node known t c.in_ok-block.field-0 c.wrong.result c.in-Some-wrong.id c.read_nodes.new.owed c.requires none c.in_ok-block.ensures.bad seen c.wrong.ensures.least c.in-Some-wrong.is
+    wrong_node known t c.in_ok-block.field-0 c.wrong.result c.in-Some-wrong.id c.read_nodes.new.owed c.requires.entries none c.in_ok-block.ensures.bad seen c.wrong.ensures.least c.in-Some-wrong.is
 
 pub returns-clause-found : goal.returns-clause-found
 returns-clause-found g c =
@@ -20,4 +20,4 @@ returns-clause-found g c =
     let none : c.in_ok-block.field-0 ≡ None = cc in
     let right : c.wrong.result ≡ None = cc in
     let seen = subst (λ (o : Option ℕ). IfNone o (Sees known t (ids_of t.entries) c.read_nodes.new.owed)) none c.in_ok-block.ensures.seen in
-    sound_nodes known t c.in_ok-block.field-0 c.wrong.result c.read_nodes.new.owed c.images_are_decoded.ensures.found c.requires none c.in_ok-block.ensures.bad seen c.wrong.ensures.none right
+    sound_nodes known t c.in_ok-block.field-0 c.wrong.result c.read_nodes.new.owed c.images_are_decoded.ensures.found c.requires.entries none c.in_ok-block.ensures.bad seen c.wrong.ensures.none right

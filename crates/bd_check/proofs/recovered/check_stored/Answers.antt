@@ -6,8 +6,8 @@ use Rattle.bd_check.specs.Reading.{HasSoundNodes, IsWrongIn}
 use Rattle.bd_check.proofs.Recoveries.{told_of, read_cause, nodes_cause}
 use Rattle.bd_check.proofs.recovered.check_stored.Goals as goal
 
-pub check_nodes-requires : goal.check_nodes-requires
-check_nodes-requires g c = c.in-Ok.ensures.table.entries
+pub check_nodes-requires-clause-entries : goal.check_nodes-requires-clause-entries
+check_nodes-requires-clause-entries g c = c.in-Ok.ensures.table.entries
 
 pub returns-in-Err-clause-cause : goal.returns-in-Err-clause-cause
 returns-in-Err-clause-cause g c = read_cause g.D.Device c.args.dev.now c.read.new.dev c.args.live.now c.as_slice.result.now c.in-Err.fault c.as_slice.ensures c.in-Err.ensures.cause

@@ -1,5 +1,6 @@
 use Rattle.std.proofs.Common.{◌≡◌, ℕ, ◌+◌, ◌*◌, ◌≤◌, false, length, nat_eq}
 use Rattle.std.specs.HashSet.{contains}
+use Rattle.bd_limits.specs.Limits.{edge_limit}
 use Rattle.bd_node.specs.Tables.{IsSound}
 use Rattle.bd_cover.specs.Walking.{AreClean, AddsBelow, count_among, node_visits}
 use Rattle.bd_cover.proofs.Looks.{HasNoneBefore}
@@ -19,10 +20,10 @@ invariant-loop-place g l = record {
   faults : g.S.NodeStore.fault_count l.store ≡ g.S.NodeStore.fault_count l.fn.store;
   loans : g.S.NodeStore.loans l.store ≡ g.S.NodeStore.loans l.fn.store;
   visits : g.S.NodeStore.is_known l.fn.store → (depth : ℕ) → (g.S.NodeStore.table l.fn.store).level l.fn.id ≤ depth
-      → g.S.NodeStore.visit_count l.store ≤ g.S.NodeStore.visit_count l.fn.store + 1 + l.place + node_visits * walked_before (g.S.NodeStore.nodes l.fn.store) (g.S.NodeStore.table l.fn.store) depth l.edges l.place;
+      → g.S.NodeStore.visit_count l.store ≤ g.S.NodeStore.visit_count l.fn.store + (1 + edge_limit) + l.place + node_visits * walked_before (g.S.NodeStore.nodes l.fn.store) (g.S.NodeStore.table l.fn.store) depth l.edges l.place;
   added : AddsBelow (g.S.NodeStore.table l.fn.store) ((g.S.NodeStore.table l.fn.store).level l.fn.id) (contains nat_eq l.fn.passed) (contains nat_eq l.passed);
   once : g.S.NodeStore.visit_count l.store + node_visits * count_among (g.S.NodeStore.table l.fn.store) (contains nat_eq l.fn.passed)
-      ≤ g.S.NodeStore.visit_count l.fn.store + node_visits * count_among (g.S.NodeStore.table l.fn.store) (contains nat_eq l.passed) + 1 + l.place;
+      ≤ g.S.NodeStore.visit_count l.fn.store + node_visits * count_among (g.S.NodeStore.table l.fn.store) (contains nat_eq l.passed) + (1 + edge_limit) + l.place;
   clean : g.S.NodeStore.is_known l.fn.store → IsSound (g.S.NodeStore.nodes l.fn.store) (g.S.NodeStore.table l.fn.store) → l.goes_on ≡ false
       → AreClean l.pushes (g.S.NodeStore.nodes l.fn.store) (g.S.NodeStore.table l.fn.store) (contains nat_eq l.fn.passed)
       → AreClean l.pushes (g.S.NodeStore.nodes l.fn.store) (g.S.NodeStore.table l.fn.store) (contains nat_eq l.passed);

@@ -1,10 +1,10 @@
-use Rattle.std.proofs.Common.{sym, ◌∙◌}
+use Rattle.std.proofs.Common.{sym, subst}
+use Rattle.std.specs.Prelude.{IfOk}
+use Rattle.bd_path.specs.declared.fetching.Fetched.{Fetched}
+use Rattle.bd_cover.specs.Walking.{IsClean, IsLook}
 use Rattle.bd_cover.proofs.walking.look_at.Goals as goal
-use Rattle.bd_cover.proofs.walking.look_at.Goals.{then-here-root+in_default, else-here-root}
 
-pub returns : goal.returns
-returns g c = c.look_at_edges.ensures (g.S.NodeStore.table c.args.store.now)
-    (elim c.if-here-root.branch [
-      | then-here-root+in_default w ↦ λ same child. w.in_default.ensures child
-      | else-here-root w ↦ λ same child thin. absurd (w.if-here-root.false (same ∙ sym c.root.ensures.value))
-    ])
+pub returns-in-Clean-clause-look : goal.returns-in-Clean-clause-look
+returns-in-Clean-clause-look g c =
+    subst (λ (x : Fetched). IfOk c.look_passed.result (IsLook c.args.pushes (g.S.NodeStore.table c.args.store.now) x)) c.in-Clean.ensures.look.0
+    (c.look_passed.ensures.look c.args.pushes (subst (λ (x : Fetched). IsClean c.args.pushes (g.S.NodeStore.table c.args.store.now) x.id x.node.value) (sym c.in-Clean.ensures.look.0) c.in-Clean.ensures.look.1))

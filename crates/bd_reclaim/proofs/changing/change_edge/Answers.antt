@@ -1,5 +1,5 @@
 use Rattle.bd_cover.proofs.Changed.{may_change, change_in_place, on_left, on_reclaimed, on_falls, on_no_higher}
-use Rattle.bd_cover.proofs.Decisions.{to_decide, decide_same, on_decided_at, decide_worn}
+use Rattle.bd_cover.proofs.Decisions.{to_decide, decide_same, decide_lighter, on_decided_at, decide_worn}
 use Rattle.bd_reclaim.proofs.changing.change_edge.Goals as goal
 
 pub commit-requires-clause-step : goal.commit-requires-clause-step
@@ -13,17 +13,17 @@ commit-requires-clause-in_place g c = λ known sound.
 pub returns-clause-reclaimed : goal.returns-clause-reclaimed
 returns-clause-reclaimed g c = λ known sound.
     on_reclaimed (g.S.NodeStore.nodes c.args.store.now) (g.S.NodeStore.table c.args.store.now) c.args.node.now c.in_ok-step.ensures.made (g.S.NodeStore.nodes c.commit.new.self) (g.S.NodeStore.table c.commit.new.self) c.commit.result
-    (on_left (g.S.NodeStore.nodes c.args.store.now) (g.S.NodeStore.table c.args.store.now) c.args.node.now c.in_ok-step.ensures.made c.in_ok-step.step (g.S.NodeStore.nodes c.commit.new.self) (g.S.NodeStore.table c.commit.new.self) c.commit.result (to_decide (g.S.NodeStore.table c.args.store.now) c.args.node.now c.args.place c.args.at c.in_ok-step.step c.root-root.result c.root-root.ensures.table c.requires.fetched c.requires.covered c.root-root.ensures.value c.in_ok-step.ensures) (decide_same (g.S.NodeStore.nodes c.args.store.now) c.args.node.now c.args.place c.args.at c.in_ok-step.step c.root-root.result c.requires.fetched.own.shape c.requires.covered c.in_ok-step.ensures) sound (c.requires.own known sound) c.commit.ensures.table (c.commit.ensures.committed known sound))
+    (on_left (g.S.NodeStore.nodes c.args.store.now) (g.S.NodeStore.table c.args.store.now) c.args.node.now c.in_ok-step.ensures.made c.in_ok-step.step (g.S.NodeStore.nodes c.commit.new.self) (g.S.NodeStore.table c.commit.new.self) c.commit.result (to_decide (g.S.NodeStore.table c.args.store.now) c.args.node.now c.args.place c.args.at c.in_ok-step.step c.root-root.result c.root-root.ensures.table c.requires.fetched c.requires.covered c.root-root.ensures.value c.in_ok-step.ensures) (decide_same (g.S.NodeStore.nodes c.args.store.now) c.args.node.now c.args.place c.args.at c.in_ok-step.step c.root-root.result c.requires.fetched.own.shape c.requires.covered c.in_ok-step.ensures) sound (c.requires.own known sound) (decide_lighter (g.S.NodeStore.nodes c.args.store.now) (g.S.NodeStore.table c.args.store.now) c.args.node.now c.args.place c.args.at c.in_ok-step.step c.root-root.result sound c.requires.fetched.own.shape c.requires.covered c.in_ok-step.ensures) c.commit.ensures.table (c.commit.ensures.committed known sound))
 
 pub returns-clause-decided : goal.returns-clause-decided
 returns-clause-decided g c = λ known sound.
     on_decided_at (g.S.NodeStore.nodes c.args.store.now) (g.S.NodeStore.table c.args.store.now) c.args.node.now c.args.place c.args.at c.in_ok-step.ensures.made (g.S.NodeStore.nodes c.commit.new.self) (g.S.NodeStore.table c.commit.new.self) c.commit.result c.in_ok-step.ensures.decided
-    (on_left (g.S.NodeStore.nodes c.args.store.now) (g.S.NodeStore.table c.args.store.now) c.args.node.now c.in_ok-step.ensures.made c.in_ok-step.step (g.S.NodeStore.nodes c.commit.new.self) (g.S.NodeStore.table c.commit.new.self) c.commit.result (to_decide (g.S.NodeStore.table c.args.store.now) c.args.node.now c.args.place c.args.at c.in_ok-step.step c.root-root.result c.root-root.ensures.table c.requires.fetched c.requires.covered c.root-root.ensures.value c.in_ok-step.ensures) (decide_same (g.S.NodeStore.nodes c.args.store.now) c.args.node.now c.args.place c.args.at c.in_ok-step.step c.root-root.result c.requires.fetched.own.shape c.requires.covered c.in_ok-step.ensures) sound (c.requires.own known sound) c.commit.ensures.table (c.commit.ensures.committed known sound))
+    (on_left (g.S.NodeStore.nodes c.args.store.now) (g.S.NodeStore.table c.args.store.now) c.args.node.now c.in_ok-step.ensures.made c.in_ok-step.step (g.S.NodeStore.nodes c.commit.new.self) (g.S.NodeStore.table c.commit.new.self) c.commit.result (to_decide (g.S.NodeStore.table c.args.store.now) c.args.node.now c.args.place c.args.at c.in_ok-step.step c.root-root.result c.root-root.ensures.table c.requires.fetched c.requires.covered c.root-root.ensures.value c.in_ok-step.ensures) (decide_same (g.S.NodeStore.nodes c.args.store.now) c.args.node.now c.args.place c.args.at c.in_ok-step.step c.root-root.result c.requires.fetched.own.shape c.requires.covered c.in_ok-step.ensures) sound (c.requires.own known sound) (decide_lighter (g.S.NodeStore.nodes c.args.store.now) (g.S.NodeStore.table c.args.store.now) c.args.node.now c.args.place c.args.at c.in_ok-step.step c.root-root.result sound c.requires.fetched.own.shape c.requires.covered c.in_ok-step.ensures) c.commit.ensures.table (c.commit.ensures.committed known sound))
 
 pub returns-clause-falls : goal.returns-clause-falls
 returns-clause-falls g c = λ known sound.
     on_falls (g.S.NodeStore.nodes c.args.store.now) (g.S.NodeStore.table c.args.store.now) c.args.node.now c.in_ok-step.ensures.made (g.S.NodeStore.nodes c.commit.new.self) (g.S.NodeStore.table c.commit.new.self) c.commit.result
-    (on_left (g.S.NodeStore.nodes c.args.store.now) (g.S.NodeStore.table c.args.store.now) c.args.node.now c.in_ok-step.ensures.made c.in_ok-step.step (g.S.NodeStore.nodes c.commit.new.self) (g.S.NodeStore.table c.commit.new.self) c.commit.result (to_decide (g.S.NodeStore.table c.args.store.now) c.args.node.now c.args.place c.args.at c.in_ok-step.step c.root-root.result c.root-root.ensures.table c.requires.fetched c.requires.covered c.root-root.ensures.value c.in_ok-step.ensures) (decide_same (g.S.NodeStore.nodes c.args.store.now) c.args.node.now c.args.place c.args.at c.in_ok-step.step c.root-root.result c.requires.fetched.own.shape c.requires.covered c.in_ok-step.ensures) sound (c.requires.own known sound) c.commit.ensures.table (c.commit.ensures.committed known sound))
+    (on_left (g.S.NodeStore.nodes c.args.store.now) (g.S.NodeStore.table c.args.store.now) c.args.node.now c.in_ok-step.ensures.made c.in_ok-step.step (g.S.NodeStore.nodes c.commit.new.self) (g.S.NodeStore.table c.commit.new.self) c.commit.result (to_decide (g.S.NodeStore.table c.args.store.now) c.args.node.now c.args.place c.args.at c.in_ok-step.step c.root-root.result c.root-root.ensures.table c.requires.fetched c.requires.covered c.root-root.ensures.value c.in_ok-step.ensures) (decide_same (g.S.NodeStore.nodes c.args.store.now) c.args.node.now c.args.place c.args.at c.in_ok-step.step c.root-root.result c.requires.fetched.own.shape c.requires.covered c.in_ok-step.ensures) sound (c.requires.own known sound) (decide_lighter (g.S.NodeStore.nodes c.args.store.now) (g.S.NodeStore.table c.args.store.now) c.args.node.now c.args.place c.args.at c.in_ok-step.step c.root-root.result sound c.requires.fetched.own.shape c.requires.covered c.in_ok-step.ensures) c.commit.ensures.table (c.commit.ensures.committed known sound))
 
 pub returns-clause-root : goal.returns-clause-root
 returns-clause-root g c =

@@ -5,14 +5,14 @@ use Rattle.std.proofs.lemmas.Bool.{false≢true}
 use Rattle.std.proofs.lemmas.Result.{err_from_is_err_and}
 use Rattle.bd_cover.specs.declared.walking.Reclaim.{Reclaim}
 use Rattle.bd_view.specs.Views.{View}
-use Rattle.bd_view.specs.Reclaiming.{IsDueChange, HasNoChange}
+use Rattle.bd_view.specs.Reclaiming.{HasRoomFor, IsDueChange, HasNoChange}
 use Rattle.bd_volume.specs.declared.fault.Fault.{Fault}
 use Rattle.bd_volume.specs.Reclaims.{ChangesOnce, IsChangedTo, IsChangeFault, ShowsEdge}
 use Rattle.bd_volume.specs.Volume.{view_of}
 use Rattle.bd_volume.proofs.Called.{went_on, goes_then, ends_then, ends_err, ends_well}
 use Rattle.bd_volume.proofs.Keeping.{keeps_read, keeps_then}
 use Rattle.bd_volume.proofs.Read.{read_same}
-use Rattle.bd_volume.proofs.Reclaims.{none_left, saved_once, edge_shows}
+use Rattle.bd_volume.proofs.Reclaims.{none_left, saved_once, save_fails, edge_shows}
 use Rattle.bd_volume.proofs.volume.Volume.change_once.Goals as goal
 
 -- ---- a write failed
@@ -77,6 +77,17 @@ returns-in_default-clause-ends g c =
     ends_well g.D.Device c.args.self.now c.look.new.self _ goes
 
 -- ---- a checkpoint for it
+
+pub returns-in_err-save_for_edge-clause-fails : goal.returns-in_err-save_for_edge-clause-fails
+returns-in_err-save_for_edge-clause-fails g c = λ s.
+    let p = err_from_is_err_and c.from_residual-in_err-save_for_edge.result c.from_residual-in_err-save_for_edge.ensures.1 in
+    let sound = c.in_ok-spill.ensures.sound s in
+    let a = view_of g.D.Device c.spill.new.self in
+    let h = c.in_ok-change.ensures in
+    rw (p.1, p.2) (save_fails c.args.pushes c.in-Some.change a (view_of g.D.Device c.save_for_edge.new.self) c.in_err-save_for_edge.field-0.0 (c.in_err-save_for_edge.ensures.unmoved (h.read.sound sound) ∙ h.read.view)
+    (subst (λ (o : Option Reclaim). MatchOption o (HasNoChange c.args.pushes a) (λ change. IsDueChange c.args.pushes change a)) c.in-Some.is (h.due sound))
+    (λ room. false≢true (sym c.if-not-has_room.true ∙ c.has_room.ensures.1 (subst (λ (v : View). HasRoomFor c.in-Some.change v) (sym h.read.view) room)))
+    c.in_err-save_for_edge.ensures.fails)
 
 pub returns-in_err-save_for_edge-clause-shows : goal.returns-in_err-save_for_edge-clause-shows
 returns-in_err-save_for_edge-clause-shows g c =
