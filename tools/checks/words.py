@@ -19,11 +19,13 @@ WRONG = {
     "load": [[], ["img"], ["img", "a", "/", "b"]],
     "measure": [["nothing"], ["--program"]],
     "mount": [[], ["img"], ["img", "there", "more"]],
+    "names": [["--none"], ["no-such-word"]],
     "picture": [[], ["--most", "x", "img"], ["img", "img", "img"]],
     "plant": [["nothing"], ["--minutes", "x"], ["--due", "--table"], ["--due", "bd_io"]],
     "rows": [[], ["nothing"]],
     "streams": [["a", "b"]],
     "unload": [[], ["img"], ["img", "/"], ["img", "/", "out", "more"]],
+    "ways": [["more"], ["--list", "more"]],
 }
 
 MISSING, FOLDER = "no such file", "is a directory"
