@@ -497,19 +497,24 @@ class Unloader:
         self.given.entries += at == 0
 
     def link(self, path, host, found, time):
-        if not 1 <= found.size <= GREATEST_TARGET:
+        if found.size > GREATEST_TARGET:
             self.leave_out(path, "no target of a link")
             return
 
         def then(line, reply):
             target = bytes_of(reply, line)
-            if b"\0" in target:
+            if not is_target(target):
                 self.leave_out(path, "no target of a link")
                 return
             os.symlink(target, host)
             settle(host, None, time)
             self.outcome.done += 1
         self.given.give(b"read %s 0 %d" % (path, READ_PIECE), then)
+
+
+def is_target(data):
+    """Whether a link of the host can lead there."""
+    return 1 <= len(data) <= GREATEST_TARGET and b"\0" not in data
 
 
 def mode_of(found, has_time):

@@ -24,6 +24,7 @@ WRONG = {
     "plant": [["nothing"], ["--minutes", "x"], ["--due", "--table"], ["--due", "bd_io"]],
     "rows": [[], ["nothing"]],
     "streams": [["a", "b"]],
+    "tar": [["x"], ["--read", "x"], ["--write"]],
     "unload": [[], ["img"], ["img", "/"], ["img", "/", "out", "more"]],
     "ways": [["more"], ["--list", "more"]],
 }

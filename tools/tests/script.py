@@ -90,17 +90,18 @@ def compare(rows, text, report):
         report(False, line)
 
 
-def shown(rows, begun, parts, call="-- run"):
-    """The calls of each of these parts of rows, each begun by this directive, after the same rows that begin a device
-    and keep it. Each processor runs its share of the parts."""
+def shown(rows, begun, parts, *directives):
+    """The calls of each of these parts of rows, each begun by one of these directives, or by `-- run` where none is given,
+    after the same rows that begin a device and keep it. Each processor runs its share of the parts."""
+    directives = directives or ("-- run",)
     count = max(1, min(os.cpu_count() or 1, len(parts)))
     shares = [parts[len(parts) * at // count : len(parts) * (at + 1) // count] for at in range(count)]
 
     def show(share):
         calls = rows.show("\n".join(begun + [line for part in share for line in part]) + "\n")
-        wanted = sum(line == call for part in share for line in part)
+        wanted = sum(line in directives for part in share for line in part)
         last = iter(calls[len(calls) - wanted :])
-        return [[next(last) for line in part if line == call] for part in share]
+        return [[next(last) for line in part if line in directives] for part in share]
 
     with ThreadPoolExecutor(count) as pool:
         return [calls for share in pool.map(show, shares) for calls in share]

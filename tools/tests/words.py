@@ -57,12 +57,25 @@ REFUSED = [
     ["run", b"\xff"], ["run", b"img\xff"], ["run", b"-\xff"], ["run", "img", b"\xff"], [b"\xff"], [b"run\xff", "img"], [b"\xc3", b"\xa9"],
     ["export", "img", b"/\xff"]]
 
-# Words of the calls to export, to import and to serve, which are answered as the ones that are refused.
-UNOFFERED = [
-    ["export", "img", "/"], ["export", "img", "/d"], ["export", "img", ""], ["export", "img", "d"], ["export", "img", "-"],
-    ["export", "img", "--", "-d"], ["export", "--", "-x", "/d"], ["export", "--", "img", "--"],
-    ["import", "img", "/"], ["import", "img", "/d"], ["import", "img", ""], ["import", "img", "--", "-d"], ["import", "--", "-x", "/d"],
-    ["serve", "img"], ["serve", "serve"], ["serve", "--", "-x"]]
+# The stream of a new image, which is that of an empty directory.
+EMPTY = b"BDX1D\0\0\0\0E"
+
+# The words after `export`, the image of which they are, and the status and what is written of a new image.
+WHOLE, NOTHING = (0, EMPTY), (10, b"")
+EXPORTS = [
+    (["img", "/"], "img", WHOLE), (["export", "/"], "export", WHOLE), (["-", "/"], "-", WHOLE), (["--", "-x", "/"], "-x", WHOLE),
+    (["img", "--", "/"], "img", WHOLE), (["img", "/d"], "img", NOTHING), (["img", ""], "img", NOTHING), (["img", "d"], "img", NOTHING),
+    (["img", "-"], "img", NOTHING), (["img", "--", "-d"], "img", NOTHING), (["--", "img", "--"], "img", NOTHING)]
+
+# The words after `import`, the image of which they are, and the status and what is written where that stream is given.
+MADE, THERE, NO_PATH = (0, b"ok import 1\n"), (10, b"no 2 exists\n"), (10, b"no 9 bad-path\n")
+IMPORTS = [
+    (["img", "/d"], "img", MADE), (["import", "/d"], "import", MADE), (["-", "/d"], "-", MADE), (["--", "-x", "/d"], "-x", MADE),
+    (["img", "--", "/d"], "img", MADE), (["img", "/two words"], "img", NO_PATH), (["img", "/"], "img", THERE), (["img", ""], "img", NO_PATH),
+    (["img", "-"], "img", NO_PATH), (["img", "--", "-d"], "img", NO_PATH), (["--", "img", "--"], "img", NO_PATH)]
+
+# Words of the call to serve, which are answered as the ones that are refused.
+UNOFFERED = [["serve", "img"], ["serve", "serve"], ["serve", "--", "-x"]]
 
 
 class Folder:
@@ -133,6 +146,19 @@ def checks(betr, report, fresh):
             report(found == (3, NO_IMAGE) and folder.names() == [], f"words: check {words} without an image")
 
 
+def streams(betr, report, fresh, call, calls, given=b""):
+    """Each export or import opens the file of its image and no other, makes none, and changes it where something is made."""
+    for words, image, ended in calls:
+        with Folder(betr) as folder:
+            (folder.path / image).write_bytes(fresh)
+            found = folder.call([call, *words], given)
+            is_kept = (folder.path / image).read_bytes() == fresh
+            report(found == ended and is_kept == (ended != MADE) and folder.names() == [image], f"words: {call} {words}: {found}")
+        with Folder(betr) as folder:
+            found = folder.call([call, *words], given)
+            report(found == (3, NO_IMAGE) and folder.names() == [], f"words: {call} {words} without an image")
+
+
 def counts(written):
     """How many replies there are, and how many of them begin with each word."""
     words = [reply.split()[0] for reply in written.splitlines()]
@@ -178,4 +204,6 @@ def test(rows, report):
     formats(rows.betr, report)
     fills(rows, report, made(rows.betr, 512))
     checks(rows.betr, report, made(rows.betr, 24))
+    streams(rows.betr, report, made(rows.betr, 24), "export", EXPORTS)
+    streams(rows.betr, report, made(rows.betr, 24), "import", IMPORTS, EMPTY)
     refused(rows.betr, report)

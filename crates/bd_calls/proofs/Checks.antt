@@ -30,8 +30,8 @@ use Rattle.bd_calls.specs.Check.{HasFoundTree, KeepsFromAnswering, KeepsImage, I
 use Rattle.bd_calls.specs.Fill.{WritesSome}
 use Rattle.bd_calls.specs.Work.{Disk, disk, IsUnopened}
 use Rattle.bd_calls.specs.Run.{EndsUnfailed, IsDetached, IsFaultless, Seen}
-use Rattle.bd_calls.proofs.Fills.{never_two, never_zero}
-use Rattle.bd_calls.proofs.Runs.{IsUnmade, disk_of, next_few, rose_or_not, rose_next}
+use Rattle.bd_calls.proofs.Fills.{never_two}
+use Rattle.bd_calls.proofs.Runs.{IsUnmade, disk_of, never_zero, next_few, rose_or_not, rose_next}
 
 -- what is said of a result holds of what it has
 pub if_ok : {T E : Type 0} (P : T → Type 0) (r : Result T E) (x : T) → r ≡ Ok x → IfOk r P → P x

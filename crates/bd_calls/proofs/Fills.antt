@@ -39,7 +39,7 @@ use Rattle.bd_shell.specs.Session.{Among, IsAtLine, Replied, TakenAt, end_of, ha
 use Rattle.bd_calls.specs.Fill.{CanEndLines, EndsLines, TellsSummary, WritesSome, cut_status, line_said, named, result_named, said_in}
 use Rattle.bd_calls.specs.Work.{Disk, Closing, AllDurable, IsLast, IsTold, HasBegun, HasNotStarted, Transcribed, Worked}
 use Rattle.bd_calls.specs.Run.{Ends, ends, apart, IsOfScript, Ran, RanGenerated, WritesEnd, WritesLast, HasStart, IsFaultless, IsDetached, Seen, end_status}
-use Rattle.bd_calls.proofs.Runs.{run_complete}
+use Rattle.bd_calls.proofs.Runs.{never_zero, run_complete}
 
 -- ---- want of memory by its own name
 
@@ -176,15 +176,6 @@ never_two Memory h = omega arith
 never_two TooLong h = omega arith
 never_two (Worn which) h = omega arith
 never_two Sink h = omega arith
-
-pub never_zero : (e : Fault) → status_of e ≢ 0
-never_zero Device h = omega arith
-never_zero (Damaged block) h = omega arith
-never_zero Source h = omega arith
-never_zero Memory h = omega arith
-never_zero TooLong h = omega arith
-never_zero (Worn which) h = omega arith
-never_zero Sink h = omega arith
 
 never_nine : (e : Fault) → EndsLines e → status_of e ≢ 9
 never_nine Device can h = omega arith

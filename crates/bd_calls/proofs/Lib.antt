@@ -7,3 +7,7 @@ pub mod Acks
 pub mod Fills
 pub mod Unread
 pub mod Offered
+pub mod Exports
+pub mod Imports
+pub mod Streams
+pub mod Planted

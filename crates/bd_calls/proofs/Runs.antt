@@ -74,7 +74,7 @@ of_call P o x is h = subst (λ o. IfSome o P) is h
 -- ---- a session as a run of an image
 
 -- what is known is the image
-can_start : (t : Tree) (n : ℕ) (known : Option Image) (image : Image) → known ≡ Some image → ImageStandsFor t n image → CanStart t n known
+pub can_start : (t : Tree) (n : ℕ) (known : Option Image) (image : Image) → known ≡ Some image → ImageStandsFor t n image → CanStart t n known
 can_start t n known image is stands = subst (CanStart t n) (sym is) stands
 
 if_some : {A : Type 0} (P : A → Type 0) (o : Option A) (x : A) → o ≡ Some x → IfSome o P → P x
@@ -425,14 +425,9 @@ worked_refused settled e how asks before now kind asked sound worn time opened b
 
 -- no line of a script was executed
 pub ran_refused : (mode : Mode) (settled : ℕ) (e : Fault) (before now : Disk) (script w : Option (List ℕ)) (takes : Option Takes) (b a : Faults) → IsLineFault e
-    → ((t : Tree) (n : ℕ) (image : Image) → before.image ≡ Some image → ImageStandsFor t n image → (block : ℕ) → e ≡ Damaged block → ⊥)
-    → ((t : Tree) (n : ℕ) (image : Image) → before.image ≡ Some image → ImageStandsFor t n image → (which : Counter) → e ≡ Worn which
-    → WearsReplaying which image)
-    → ((t : Tree) (n : ℕ) (image : Image) → before.image ≡ Some image → ImageStandsFor t n image → Elapses before.calls now.calls before.left now.left (ImageStandsFor t n))
-    → ((t : Tree) (n : ℕ) (image : Image) → before.image ≡ Some image → ImageStandsFor t n image → AllStandFor t n (now.left settled) ⊎ IsUnmade settled before now)
-    → ((block : ℕ) → e ≡ Damaged block → IsBadIn before.image block)
+    → Worked settled (Some e) (AllDurable false) (IsOfScript mode [] script) [] [] before now
     → Ran mode settled (Some e) [] (ends before script takes w b) (ends now script takes w a)
-ran_refused mode settled e before now script w takes b a kind sound worn time opened bad = record {
+ran_refused mode settled e before now script w takes b a kind worked = record {
   exchanges = [];
   fed = record {
     front = [];
@@ -448,7 +443,7 @@ ran_refused mode settled e before now script w takes b a kind sound worn time op
     read_out = tt;
     replied = unwritten e kind;
   };
-  worked = worked_refused settled e (AllDurable (has_stop [])) (IsOfScript mode [] script) before now kind (lines_to_run mode [], inl refl) sound worn time opened bad;
+  worked = worked;
 }
   where
     at_line : (f : Fault) (bs : List ℕ) → IsLineFault f → Among mode (Some f) bs []
@@ -508,13 +503,13 @@ start_worn (volume.Full free need) e which is worn = absurd is
 start_worn (volume.Stopped call) e which is worn = absurd is
 
 -- a start that failed
-pub ran_unstarted : (mode : Mode) {D : Type 0} (g : Ghosts D) (v : VolumeFault) (e : Fault) (old now : D) (script w : Option (List ℕ)) (takes : Option Takes) (b a : Faults)
+pub worked_unstarted : {D : Type 0} (g : Ghosts D) (v : VolumeFault) (e : Fault) (how : Closing) (asks : List Spoken → Type 0) (old now : D) → ((lines : List Spoken) × asks lines)
     → IsStartFault v e → IsStartCause g old now v → ((t : Tree) (n : ℕ) → CanStart t n (g.contents old) → (block : ℕ) → v ≢ volume.Damaged block)
     → ((t : Tree) (n : ℕ) → IfSome (g.contents old) (λ image. ImageStandsFor t n image → (which : Counter) → v ≡ volume.Worn which → WearsReplaying which image))
     → OnlyStarts g old now → MayStart g old now → IfSome (g.contents old) (HasBlocks (g.block_count old))
-    → Ran mode (g.call_count old + 1) (Some e) [] (ends (disk_of g old) script takes w b) (ends (disk_of g now) script takes w a)
-ran_unstarted mode g v e old now script w takes b a fault cause sound wears left starts shape =
-    ran_refused mode (g.call_count old + 1) e (disk_of g old) (disk_of g now) script w takes b a (start_kind v e fault)
+    → Worked (g.call_count old + 1) (Some e) how asks [] [] (disk_of g old) (disk_of g now)
+worked_unstarted g v e how asks old now asked fault cause sound wears left starts shape =
+    worked_refused (g.call_count old + 1) e how asks (disk_of g old) (disk_of g now) (start_kind v e fault) asked
     (λ t n image is stands block damaged. sound t n (can_start t n (g.contents old) image is stands) block (start_damaged v e block fault damaged))
     (λ t n image is stands which worn. if_some (λ i. ImageStandsFor t n i → (c : Counter) → v ≡ volume.Worn c → WearsReplaying c i) (g.contents old) image is (wears t n)
     stands which (start_worn v e which fault worn))
@@ -530,6 +525,16 @@ ran_unstarted mode g v e old now script w takes b a fault cause sound wears left
     by t n start some (inl many) rose (inr h) = inl (h some (λ first. omega (arith, first.few, many)) t n start).each
     by t n start some (inr few) (inl rose) (inr h) = inr (inr (few, rose))
     by t n start some (inr few) (inr unrisen) (inr h) = inl (h some (λ first. unrisen first.rose) t n start).each
+
+-- so of a run
+pub ran_unstarted : (mode : Mode) {D : Type 0} (g : Ghosts D) (v : VolumeFault) (e : Fault) (old now : D) (script w : Option (List ℕ)) (takes : Option Takes) (b a : Faults)
+    → IsStartFault v e → IsStartCause g old now v → ((t : Tree) (n : ℕ) → CanStart t n (g.contents old) → (block : ℕ) → v ≢ volume.Damaged block)
+    → ((t : Tree) (n : ℕ) → IfSome (g.contents old) (λ image. ImageStandsFor t n image → (which : Counter) → v ≡ volume.Worn which → WearsReplaying which image))
+    → OnlyStarts g old now → MayStart g old now → IfSome (g.contents old) (HasBlocks (g.block_count old))
+    → Ran mode (g.call_count old + 1) (Some e) [] (ends (disk_of g old) script takes w b) (ends (disk_of g now) script takes w a)
+ran_unstarted mode g v e old now script w takes b a fault cause sound wears left starts shape =
+    ran_refused mode (g.call_count old + 1) e (disk_of g old) (disk_of g now) script w takes b a (start_kind v e fault)
+    (worked_unstarted g v e (AllDurable false) (IsOfScript mode [] script) old now (lines_to_run mode [], inl refl) fault cause sound wears left starts shape)
 
 -- ---- an image by its name
 
@@ -614,13 +619,21 @@ pub next_few : (n : ℕ) → next_count n ≤ n + 1
 next_few n = grind (arith)
 
 -- an attach that failed
+pub worked_detached : (how : Closing) (asks : List Spoken → Type 0) (before now : Disk) → ((lines : List Spoken) × asks lines) → now.calls ≡ next_count before.calls
+    → Elapses before.calls now.calls before.left now.left Nothing
+    → Worked (before.calls + 2) (Some Device) how asks [] [] before now
+worked_detached how asks before now asked once time =
+    worked_refused (before.calls + 2) Device how asks before now tt asked (λ t n image is stands block damaged. cc) (λ t n image is stands which worn. cc)
+    (λ t n image is stands. within Nothing (ImageStandsFor t n) time (λ c none. absurd none))
+    (λ t n image is stands. inr (inl (omega (arith, once, next_few before.calls)))) (λ block damaged. cc)
+
+-- so of a run
 pub ran_detached : (mode : Mode) (before now : Disk) (script w : Option (List ℕ)) (takes : Option Takes) (b a : Faults) → now.calls ≡ next_count before.calls
     → Elapses before.calls now.calls before.left now.left Nothing
     → Ran mode (before.calls + 2) (Some Device) [] (ends before script takes w b) (ends now script takes w a)
 ran_detached mode before now script w takes b a once time =
-    ran_refused mode (before.calls + 2) Device before now script w takes b a tt (λ t n image is stands block damaged. cc) (λ t n image is stands which worn. cc)
-    (λ t n image is stands. within Nothing (ImageStandsFor t n) time (λ c none. absurd none))
-    (λ t n image is stands. inr (inl (omega (arith, once, next_few before.calls)))) (λ block damaged. cc)
+    ran_refused mode (before.calls + 2) Device before now script w takes b a tt
+    (worked_detached (AllDurable false) (IsOfScript mode [] script) before now (lines_to_run mode [], inl refl) once time)
 
 -- ---- causes
 
@@ -661,16 +674,16 @@ rose_next before now one = subst (Rose before) (sym one) (by (cases_lt before (2
     by (inl low) = inl (omega (arith, low))
     by (inr high) = inr (omega (arith, high))
 
-rose_later : (a b d : ℕ) → b ≤ d → Rose a b → Rose a d
+pub rose_later : (a b d : ℕ) → b ≤ d → Rose a b → Rose a d
 rose_later a b d h (inl r) = inl (omega arith)
 rose_later a b d h (inr r) = inr (omega arith)
 
 -- a script of which more came than the limit is longer
-too_long : (script rest : Option (List ℕ)) (taken : List ℕ) → length taken ≡ script_limit + 1 → script ≡ prepend_known taken rest
-    → IsSomeAnd script (λ bytes. length bytes ≤ script_limit) → ⊥
-too_long script None taken long is short = subst (λ o. IsSomeAnd o (λ bytes. length bytes ≤ script_limit)) is short
-too_long script (Some more) taken long is short =
-    let few : length (taken ++ more) ≤ script_limit = subst (λ o. IsSomeAnd o (λ bytes. length bytes ≤ script_limit)) is short in
+pub too_long : (limit : ℕ) (script rest : Option (List ℕ)) (taken : List ℕ) → length taken ≡ limit + 1 → script ≡ prepend_known taken rest
+    → IsSomeAnd script (λ bytes. length bytes ≤ limit) → ⊥
+too_long limit script None taken long is short = subst (λ o. IsSomeAnd o (λ bytes. length bytes ≤ limit)) is short
+too_long limit script (Some more) taken long is short =
+    let few : length (taken ++ more) ≤ limit = subst (λ o. IsSomeAnd o (λ bytes. length bytes ≤ limit)) is short in
     omega (arith, few, long, length-append taken more)
 
 -- an image that is known and stands for a tree has no damage
@@ -695,7 +708,7 @@ faultless_run mode settled (Damaged block) acks from now before ended later last
     absurd (undamaged settled block (AllDurable (has_stop r.exchanges)) (IsOfScript mode r.fed.taken from.script) r.exchanges acks from.disk now.disk r.worked stands)
 faultless_run mode settled Source acks from now before ended later last r cause k stands short f = absurd (f.source cause.0)
 faultless_run mode settled Memory acks from now before ended later last r cause k stands short f = inl refl
-faultless_run mode settled TooLong acks from now before ended later last r cause k stands short f = absurd (too_long from.script now.script r.fed.taken r.fed.taken_at.0 r.fed.script_is short)
+faultless_run mode settled TooLong acks from now before ended later last r cause k stands short f = absurd (too_long script_limit from.script now.script r.fed.taken r.fed.taken_at.0 r.fed.script_is short)
 faultless_run mode settled (Worn which) acks from now before ended later last r cause k stands short f = inr refl
 faultless_run mode settled Sink acks from now before ended later last r cause k stands short f = absurd (f.sink (rose_later before.sink ended.sink later k cause.0))
 

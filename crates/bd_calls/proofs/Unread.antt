@@ -1,5 +1,5 @@
 -- A call whose words aren't read, and words that make no call that is offered.
-use Rattle.std.proofs.Common.{◌≡◌, ◌⊎◌, ◌≢◌, ℕ, ◌+◌, List, [], refl, sym, subst, ◌∙◌, arith, inl, inr, true, true≢false, Option, None, Some, Result, Ok, Err}
+use Rattle.std.proofs.Common.{◌≡◌, ◌⊎◌, ◌≢◌, ℕ, ◌+◌, List, [], refl, sym, subst, ◌∙◌, arith, inl, inr, true, false, true≢false, Option, None, Some, Result, Ok, Err}
 use Rattle.std.specs.Prelude.{IfSome, IsNone}
 use Rattle.bd_io.specs.Takes.{Takes}
 use Rattle.bd_device.specs.Blocks.{Image}
@@ -12,11 +12,12 @@ use Rattle.bd_shell.specs.declared.fault.Fault.TheVariants.{Memory, Sink}
 use Rattle.bd_shell.specs.declared.outcome.Ack.{Ack}
 use Rattle.bd_shell.specs.Fault.{Faults, status_of}
 use Rattle.bd_calls.specs.Offered.{is_offered}
-use Rattle.bd_calls.specs.Work.{Disk}
-use Rattle.bd_calls.specs.Run.{CanEnd, Does, Makes, Seen, Uses, WritesEnd, end_status, ends}
+use Rattle.bd_shell.specs.Transcript.{lines_to_run}
+use Rattle.bd_calls.specs.Work.{Disk, AllDurable}
+use Rattle.bd_calls.specs.Run.{CanEnd, Does, IsOfScript, Makes, Seen, Uses, WritesEnd, end_status, ends}
 use Rattle.bd_shell.specs.Session.{end_of}
 use Rattle.bd_calls.proofs.Fills.{never_two}
-use Rattle.bd_calls.proofs.Runs.{ran_refused}
+use Rattle.bd_calls.proofs.Runs.{ran_refused, worked_refused}
 
 -- ---- what is said of the call that the words make
 
@@ -52,8 +53,9 @@ does_unread (Run image) d script w w' takes b a status acks is none last offered
   status_is = is;
   replies = w;
   ended = b;
-  ran = ran_refused Single (d.calls + 2) Memory d d script w takes b b tt (λ t n image is stands block damaged. cc) (λ t n image is stands which worn. cc)
-      (λ t n image is stands. idle d.calls d.left _) (λ t n image is stands. inr (inl (omega arith))) (λ block damaged. cc);
+  ran = ran_refused Single (d.calls + 2) Memory d d script w takes b b tt (worked_refused (d.calls + 2) Memory (AllDurable false) (IsOfScript Single [] script) d d tt
+      (lines_to_run Single [], inl refl) (λ t n image is stands block damaged. cc) (λ t n image is stands which worn. cc)
+      (λ t n image is stands. idle d.calls d.left _) (λ t n image is stands. inr (inl (omega arith))) (λ block damaged. cc));
   cause = refl;
   last = last;
 })
@@ -85,8 +87,22 @@ does_unread (Check image) d script w w' takes b a status acks is none last offer
   takes_stay = refl;
   last = last;
 })
-does_unread (Export image path) d script w w' takes b a status acks is none last offered = absurd (true≢false (sym offered))
-does_unread (Import image path) d script w w' takes b a status acks is none last offered = absurd (true≢false (sym offered))
+does_unread (Export image path) d script w w' takes b a status acks is none last offered = inr (record {
+  status_is = is;
+  acked = none;
+  disk_stays = record { image = refl; calls = refl; left = λ call image. (λ was. was, λ is. is); write_faults = refl; last_failed = refl };
+  script_stays = refl;
+  takes_stay = refl;
+  last = last;
+})
+does_unread (Import image path) d script w w' takes b a status acks is none last offered = inr (record {
+  status_is = is;
+  acked = none;
+  disk_stays = record { image = refl; calls = refl; left = λ call image. (λ was. was, λ is. is); write_faults = refl; last_failed = refl };
+  script_stays = refl;
+  takes_stay = refl;
+  last = last;
+})
 does_unread (Serve image) d script w w' takes b a status acks is none last offered = absurd (true≢false (sym offered))
 
 pub uses_unread : (call : Call) (status : ℕ) (before now : Seen) (N U T : Type 0) → status ≡ status_of Memory → U → T → is_offered call ≡ true → Uses call status before now N U T
@@ -94,8 +110,8 @@ uses_unread (Run image) status before now N U T is untouched untaken offered = i
 uses_unread (Format image slots) status before now N U T is untouched untaken offered = (inr (inr (is, untouched)), untaken)
 uses_unread (Fill image seed count) status before now N U T is untouched untaken offered = (inr (inr (is, untouched)), untaken)
 uses_unread (Check image) status before now N U T is untouched untaken offered = (inr (inr (is, untouched)), untaken)
-uses_unread (Export image path) status before now N U T is untouched untaken offered = absurd (true≢false (sym offered))
-uses_unread (Import image path) status before now N U T is untouched untaken offered = absurd (true≢false (sym offered))
+uses_unread (Export image path) status before now N U T is untouched untaken offered = (inr (inr (is, untouched)), untaken)
+uses_unread (Import image path) status before now N U T is untouched untaken offered = inr (inr ((is, untouched), untaken))
 uses_unread (Serve image) status before now N U T is untouched untaken offered = absurd (true≢false (sym offered))
 
 -- want of memory is another status than an end well or by the sink
@@ -103,13 +119,22 @@ not_done : (status : ℕ) → status ≡ status_of Memory → (status ≡ 0) ⊎
 not_done status is (inl zero) = omega (arith, is, zero)
 not_done status is (inr nine) = omega (arith, is, nine)
 
+not_over : (status : ℕ) → status ≡ status_of Memory → (status ≡ 0) ⊎ (status ≡ 10) → ⊥
+not_over status is (inl zero) = omega (arith, is, zero)
+not_over status is (inr ten) = omega (arith, is, ten)
+
+not_told : (status : ℕ) → status ≡ status_of Memory → (status ≡ 0) ⊎ (status ≡ 9) ⊎ (status ≡ 10) → ⊥
+not_told status is (inl zero) = omega (arith, is, zero)
+not_told status is (inr (inl nine)) = omega (arith, is, nine)
+not_told status is (inr (inr ten)) = omega (arith, is, ten)
+
 pub makes_unread : {D : Type 0} (g : Ghosts D) (call : Call) (status : ℕ) (old new : D) → status ≡ status_of Memory → is_offered call ≡ true → Makes g call status old new
 makes_unread g (Run image) status old new is offered = λ zero. absurd (not_done status is (inl zero))
 makes_unread g (Format image slots) status old new is offered = λ done. absurd (not_done status is done)
 makes_unread g (Fill image seed count) status old new is offered = λ done. absurd (not_done status is done)
 makes_unread g (Check image) status old new is offered = λ zero. absurd (not_done status is (inl zero))
-makes_unread g (Export image path) status old new is offered = absurd (true≢false (sym offered))
-makes_unread g (Import image path) status old new is offered = absurd (true≢false (sym offered))
+makes_unread g (Export image path) status old new is offered = λ over. absurd (not_over status is over)
+makes_unread g (Import image path) status old new is offered = λ told. absurd (not_told status is told)
 makes_unread g (Serve image) status old new is offered = absurd (true≢false (sym offered))
 
 -- want of memory is one of the statuses that a call may end with where nothing fails
@@ -118,8 +143,8 @@ ends_unread (Run image) status is = inr (inl is)
 ends_unread (Format image slots) status is = inr (inl is)
 ends_unread (Fill image seed count) status is = inr (inl is)
 ends_unread (Check image) status is = inl (inr (inl is))
-ends_unread (Export image path) status is = inr (inl is)
-ends_unread (Import image path) status is = inr (inl is)
+ends_unread (Export image path) status is = inl (inr (inl is))
+ends_unread (Import image path) status is = inl (inr (inl is))
 ends_unread (Serve image) status is = inr (inl is)
 
 pub complete_unread : (R : Call → Type 0) (F : Type 0) (o : Option Call) (status : ℕ) → status ≡ status_of Memory → IfSome o (λ call. R call → F → CanEnd call status)

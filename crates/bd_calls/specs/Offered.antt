@@ -14,8 +14,8 @@ is_offered (Run image) = true
 is_offered (Format image slots) = true
 is_offered (Fill image seed count) = true
 is_offered (Check image) = true
-is_offered (Export image path) = false
-is_offered (Import image path) = false
+is_offered (Export image path) = true
+is_offered (Import image path) = true
 is_offered (Serve image) = false
 
 abbrev pub offer : Call → Option Call
@@ -35,6 +35,8 @@ call_at (task.Run image) = Run image.now
 call_at (task.Format image slots) = Format image.now slots
 call_at (task.Fill image seed count) = Fill image.now seed count
 call_at (task.Check image) = Check image.now
+call_at (task.Export image path) = Export image.now path.now
+call_at (task.Import image path) = Import image.now path.now
 
 -- a new image gets 24 to 65,536 slots, and a fill has at most 100,000 lines
 abbrev pub IsTaskWithin : Task → Type 0
@@ -42,3 +44,5 @@ IsTaskWithin (task.Run image) = ⊤
 IsTaskWithin (task.Format image slots) = (slot_minimum ≤ slots) × (slots ≤ slot_limit)
 IsTaskWithin (task.Fill image seed count) = (seed ≤ seed_limit) × (count ≤ fill_limit)
 IsTaskWithin (task.Check image) = ⊤
+IsTaskWithin (task.Export image path) = ⊤
+IsTaskWithin (task.Import image path) = ⊤

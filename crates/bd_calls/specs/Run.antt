@@ -21,14 +21,19 @@ use Rattle.bd_shell.specs.declared.fault.Fault.{Fault}
 use Rattle.bd_shell.specs.declared.fault.Fault.TheVariants.{Memory}
 use Rattle.bd_shell.specs.declared.outcome.Ack.{Ack}
 use Rattle.bd_check.specs.Verdicts.{IsRightOf}
+use Rattle.bd_stream.specs.Streams.{stream_limit}
+use Rattle.bd_transfer.specs.declared.exporting.ExportEnd.{ExportEnd}
+use Rattle.bd_transfer.specs.declared.importing.ImportEnd.{ImportEnd}
 use Rattle.bd_check.specs.declared.verdict.Verdict.{Verdict}
 use Rattle.bd_shell.specs.Fault.{status_of, fault_line, Faults, faults, Caused, IsCaused}
 use Rattle.bd_calls.specs.Work.{Disk, disk, AllDurable, Worked}
 use Rattle.bd_calls.specs.Format.{SaysDone, format_acks, HasNewImage}
 use Rattle.bd_shell.specs.Transcript.{Known, Exchange, lines_to_run}
-use Rattle.bd_shell.specs.Session.{Among, BeginsWith, ReadOut, TakenAt, Replied, has_stop}
+use Rattle.bd_shell.specs.Session.{Among, BeginsWith, end_of, ReadOut, TakenAt, Replied, has_stop}
 use Rattle.bd_shell.specs.Taken.{Took}
 use Rattle.bd_calls.specs.Check.{KeepsFromAnswering, KeepsImage, TellsVerdict}
+use Rattle.bd_calls.specs.Export.{Streamed, export_status}
+use Rattle.bd_calls.specs.Import.{RanStream, TellsImport}
 use Rattle.bd_calls.specs.Fill.{CanEndLines, TellsSummary, said_in}
 
 -- the status of an end
@@ -198,6 +203,33 @@ pub record Checked (status : ℕ) (acks : List Ack) (before now : Ends) : Type 0
   pub takes_stay : now.takes ≡ before.takes
   pub acked : acks ≡ []
 
+-- how exporting a path of an image went: what ended it, to which its status and its last line are
+-- tied, what was asked and written before that, with the counts of faults then; the source stays as
+-- it was
+pub record Exported (path : List ℕ) (status : ℕ) (acks : List Ack) (before now : Ends) : Type 0 where
+  pub result : Result (Option ExportEnd) Fault
+  pub status_is : status ≡ export_status result
+  pub replies : Known
+  pub streamed : Streamed path (before.disk.calls + 2) result acks before.disk now.disk
+      before.written replies
+  pub ended : Faults
+  pub caused : IsCaused before.faults ended now.disk.last_failed result
+  pub last : WritesEnd (end_of result) replies now.written ended now.faults
+  pub script_stays : now.script ≡ before.script
+  pub takes_stay : now.takes ≡ before.takes
+
+-- how importing a stream at a path of an image went: how it ended, or the fault that came before
+-- that, to which the status and what is written are tied, with the counts of faults before that; and
+-- what was taken of the source, and executed of the commands that this gives
+pub record Imported (path : List ℕ) (status : ℕ) (acks : List Ack) (before now : Ends) : Type 0 where
+  pub result : Result (Option ImportEnd) Fault
+  pub ran : RanStream path (before.disk.calls + 2) result acks before.script now.script before.takes
+      now.takes before.disk now.disk
+  pub ended : Faults
+  pub caused : IsCaused before.faults ended now.disk.last_failed result
+  pub told : TellsImport result status before.written now.written ended.sink now.faults.sink
+  pub last : now.faults ≡ record ended { sink = now.faults.sink }
+
 -- the same is told of the image
 pub record IsSameDisk (before now : Disk) : Type 0 where
   pub image : now.image ≡ before.image
@@ -216,7 +248,7 @@ pub record Unread (status : ℕ) (acks : List Ack) (before now : Ends) : Type 0 
   pub last : WritesEnd (Some Memory) before.written now.written before.faults now.faults
 
 -- how a call went; where its words weren't read a run and a format end as by want of memory later,
--- and a fill or a check without its line. The calls that aren't offered never go
+-- and the others with no more than that fault's line. The calls that aren't offered never go
 abbrev pub Does : Call → ℕ → List Ack → Ends → Ends → Type 0
 Does (Run image) status acks before now = Went Single status acks before now
 Does (Format image slots) status acks before now = Formatted status acks before now
@@ -224,8 +256,10 @@ Does (Fill image seed count) status acks before now =
     Filled seed count status acks before now ⊎ Unread status acks before now
 Does (Check image) status acks before now =
     Checked status acks before now ⊎ Unread status acks before now
-Does (Export image path) status acks before now = ⊥
-Does (Import image path) status acks before now = ⊥
+Does (Export image path) status acks before now =
+    Exported path status acks before now ⊎ Unread status acks before now
+Does (Import image path) status acks before now =
+    Imported path status acks before now ⊎ Unread status acks before now
 Does (Serve image) status acks before now = ⊥
 
 -- ---- the device
@@ -280,8 +314,12 @@ Uses (Fill image seed count) status before now named untouched untaken = (named
 Uses (Check image) status before now named untouched untaken = (named
     ⊎ (IsDetached status before now × (now.shows image ≡ before.shows image))
     ⊎ IsUnread status untouched) × untaken
-Uses (Export image path) status before now named untouched untaken = ⊥
-Uses (Import image path) status before now named untouched untaken = ⊥
+Uses (Export image path) status before now named untouched untaken = (named
+    ⊎ (IsDetached status before now × (now.shows image ≡ before.shows image))
+    ⊎ IsUnread status untouched) × untaken
+Uses (Import image path) status before now named untouched untaken = named
+    ⊎ (IsDetached status before now × (now.shows image ≡ before.shows image) × untaken)
+    ⊎ (IsUnread status untouched × untaken)
 Uses (Serve image) status before now named untouched untaken = ⊥
 
 -- the image that a call names
@@ -294,9 +332,10 @@ image_of (Export image path) = image
 image_of (Import image path) = image
 image_of (Serve image) = image
 
--- what else is said of a call's device: no write of a run, a fill or a check failed that ends well,
--- of a fill also by the sink, and a format that ends well or by the sink has made an image of so
--- many slots, whatever there was
+-- what else is said of a call's device: no write of a run, a fill, a check, an export or an import
+-- failed that ends well, of a fill and an import also by the sink, of an export and an import also
+-- without a whole stream, and a format that ends well or by the sink has made an image of so many
+-- slots, whatever there was
 abbrev pub Makes : {D : Type 0} → Ghosts D → Call → ℕ → D → D → Type 0
 Makes g (Run image) status old new =
     status ≡ 0 → g.write_fault_count new ≡ g.write_fault_count old
@@ -306,8 +345,10 @@ Makes g (Fill image seed count) status old new = (status ≡ 0) ⊎ (status ≡ 
     → g.write_fault_count new ≡ g.write_fault_count old
 Makes g (Check image) status old new =
     status ≡ 0 → g.write_fault_count new ≡ g.write_fault_count old
-Makes g (Export image path) status old new = ⊥
-Makes g (Import image path) status old new = ⊥
+Makes g (Export image path) status old new = (status ≡ 0) ⊎ (status ≡ 10)
+    → g.write_fault_count new ≡ g.write_fault_count old
+Makes g (Import image path) status old new = (status ≡ 0) ⊎ (status ≡ 9) ⊎ (status ≡ 10)
+    → g.write_fault_count new ≡ g.write_fault_count old
 Makes g (Serve image) status old new = ⊥
 
 -- ---- where nothing fails
@@ -317,29 +358,32 @@ abbrev pub HasStart : Image → Type 0
 HasStart image = (t : Tree) × (n : ℕ) × ImageStandsFor t n image
 
 -- what a call takes is there: for a run an image that is known and has a tree, and a script that is
--- known and isn't too long; for a check an image that is known
+-- known and isn't too long; for an import such an image and a stream; for a fill and an export such
+-- an image; for a check one that is known
 abbrev pub IsReady : Call → Option Image → Known → Type 0
 IsReady (Run image) shown script =
     IsSomeAnd shown HasStart × IsSomeAnd script (λ bytes. length bytes ≤ script_limit)
 IsReady (Format image slots) shown script = ⊤
 IsReady (Fill image seed count) shown script = IsSomeAnd shown HasStart
 IsReady (Check image) shown script = IsSome shown
-IsReady (Export image path) shown script = ⊥
-IsReady (Import image path) shown script = ⊥
+IsReady (Export image path) shown script = IsSomeAnd shown HasStart
+IsReady (Import image path) shown script =
+    IsSomeAnd shown HasStart × IsSomeAnd script (λ bytes. length bytes ≤ stream_limit)
 IsReady (Serve image) shown script = ⊥
 
 -- a call ended well, for want of memory, or where a counter is worn
 abbrev pub EndsUnfailed : ℕ → Type 0
 EndsUnfailed status = (status ≡ 0) ⊎ (status ≡ 6) ⊎ (status ≡ 8)
 
--- how a call may end then: so, and a check may say no
+-- how a call may end then: so, a check may say no, an export may write no whole stream, and an
+-- import may not be done
 abbrev pub CanEnd : Call → ℕ → Type 0
 CanEnd (Run image) status = EndsUnfailed status
 CanEnd (Format image slots) status = EndsUnfailed status
 CanEnd (Fill image seed count) status = EndsUnfailed status
 CanEnd (Check image) status = EndsUnfailed status ⊎ (status ≡ 10)
-CanEnd (Export image path) status = EndsUnfailed status
-CanEnd (Import image path) status = EndsUnfailed status
+CanEnd (Export image path) status = EndsUnfailed status ⊎ (status ≡ 10)
+CanEnd (Import image path) status = EndsUnfailed status ⊎ (status ≡ 10)
 CanEnd (Serve image) status = EndsUnfailed status
 
 -- the outside doesn't fail

@@ -3,6 +3,8 @@ use Rattle.std.specs.Prelude.{◌≡◌, ◌⊎◌, ℕ, ◌+◌, ◌<◌, ◌�
 use Rattle.std.specs.List.{AllByRecursion}
 use Rattle.std.specs.declared.option.Option.{Option}
 use Rattle.std.specs.declared.option.Option.TheVariants.{None, Some}
+use Rattle.std.specs.declared.result.Result.{Result}
+use Rattle.std.specs.declared.result.Result.TheVariants.{Ok, Err}
 use Rattle.bd_io.specs.Cause.{Rose}
 use Rattle.bd_model.specs.Tree.{Tree}
 use Rattle.bd_device.specs.Blocks.{Image}
@@ -67,6 +69,11 @@ pub record IsUnopened (settled : ℕ) (xs : List Exchange) (before now : Disk) :
       ⊎ ((now.calls ≤ settled) × Rose before.write_faults now.write_faults)
 
 -- ---- how it ends
+
+-- how a work at a path ends: without a fault by none, where the text is no path
+abbrev pub ended_at : {T : Type 0} → Result T Fault → Result (Option T) Fault
+ended_at (Ok e) = Ok (Some e)
+ended_at (Err e) = Err e
 
 -- what an end without a fault does with what was accepted: it makes all durable, unless a `stop`
 -- did so before, or leaves what waits

@@ -12,8 +12,10 @@ ghost use Rattle.bd_calls.specs.Work.{disk};
 ghost use Rattle.bd_calls.specs.Run.{CanEnd, EndsUncalled, end_status, ends, Does, IsFaultless, IsFlushed, IsReady, Makes, Ran, Uses, WritesEnd, WritesLast, image_of, seen, usage_line};
 
 use crate::checking::{check_image, end_check};
+use crate::exporting::{end_export, export_image};
 use crate::fill::{end_fill, fill_image};
 use crate::format::format_image;
+use crate::importing::{end_import, import_image};
 use crate::task::{Task, read_task};
 use bd_device::{Attach, Device};
 use bd_io::{Sink, Source, put_all};
@@ -25,6 +27,10 @@ use std::alloc::Global;
 
 /// The status where the words are refused.
 const REFUSED: u8 = 2;
+
+/// The status where a check finds no tree, or doesn't find out, where an export writes no whole
+/// stream, and where an import doesn't take one.
+pub const NO: u8 = 10;
 
 /// What is written where the words are refused.
 const USAGE: &[u8] =
@@ -218,18 +224,27 @@ fn end_unread<K: Sink>(alloc: Global, sink: &mut K) -> Outcome
 /// executed, and how many of their replies say `ok`, `no` and `full`; at a fault it comes before the
 /// fault's line. `PROGRAM check IMAGE` writes no block: it finds out whether the image stands for a
 /// tree, and writes `ok check nodes N keys K count C` (status 0), or `no check block B`, `no check
-/// node I` or `no check limit 16777216` (status 10). Other words have the usage line written, and
-/// nothing else is done (status 2); so have those of `export`, `import` and `serve`, though they
+/// node I` or `no check limit 16777216` (status 10). `PROGRAM export IMAGE PATH` executes no command
+/// that writes: the stream of what is at the path of the image's tree and below it is written, and no
+/// line (status 0). Where `PATH` isn't a path or nothing is there nothing is written, and where the
+/// next entry's path has more than 512 bytes the stream ends before it (status 10). `PROGRAM import
+/// IMAGE PATH` makes at the path what the stream that the source gives has, and writes `ok import N`,
+/// with the number of its commands (status 0). It ends with `no 9 bad-path` where `PATH` isn't a path,
+/// with the reply of the first command that is refused or for which slots are short, with `no 14
+/// long-path` before an entry whose path has more than 512 bytes, and with `no 15 bad-stream` where
+/// the bytes are no stream (status 10); what was accepted before is left waiting. Other words have
+/// the usage line written, and nothing else is done (status 2); so have those of `serve`, though they
 /// make a call. The first fault ends the run with its status, and its line where the sink takes it:
-/// the device 3, damage 4, of a bad block of the image, the source 5, memory 6, a script of more
-/// than 16,777,216 bytes 7, a counter 8, the sink 9. Where there is no memory to read the words,
-/// that fault's line is all that is done. Before each take and at the end the sink passes on all
-/// that was written; after its own fault it isn't called again.
+/// the device 3, damage 4, of a bad block of the image, the source 5, memory 6, a script of more than
+/// 16,777,216 bytes or a stream of more than 4,294,967,296 7, a counter 8, the sink 9. Where there is
+/// no memory to read the words, that fault's line is all that is done. Before each take of a script
+/// and at the end the sink passes on all that was written; after its own fault it isn't called again.
 ///
-/// At each `sync`, at `stop` and at the end of the script all accepted commands are made durable
-/// and acknowledged; at a fault they aren't. Stopped at any moment, the image stands for the tree
-/// after a front of the accepted commands, one that holds all that was acknowledged. A format that
-/// ends well is acknowledged once, as of no commands; at a fault it isn't.
+/// At each `sync`, at `stop`, at the end of the script and at that of a whole stream all accepted
+/// commands are made durable and acknowledged; at a fault they aren't. Stopped at any moment, the
+/// image stands for the tree after a front of the accepted commands, one that holds all that was
+/// acknowledged. A format that ends well is acknowledged once, as of no commands; at a fault it
+/// isn't.
 pub fn run<D: Attach, S: Source, K: Sink>(
     alloc: Global,
     words: &[String],
@@ -299,7 +314,7 @@ pub fn run<D: Attach, S: Source, K: Sink>(
         ≡ faults (D.fault_count dev.old) (S.fault_count src.old) (K.fault_count sink.old) }
 
     // Where nothing fails, the call is done, unless memory runs out or a counter is worn; a check
-    // may say no.
+    // may say no, an export may write no whole stream, and an import may not be done.
     ensures complete { IfSome (offered (map string_bytes words.now)) (λ call.
         IsReady call (D.shows dev.old (image_of call)) (S.left src.old) → IsFaultless
         (faults (D.fault_count dev.old) (S.fault_count src.old) (K.fault_count sink.old))
@@ -322,6 +337,14 @@ pub fn run<D: Attach, S: Source, K: Sink>(
         Ok(Task::Check { image }) => {
             let found = check_image(alloc, image, dev);
             end_check(alloc, sink, found)
+        }
+        Ok(Task::Export { image, path }) => {
+            let ended = export_image(alloc, image, path, dev, sink);
+            end_export(sink, ended)
+        }
+        Ok(Task::Import { image, path }) => {
+            let imported = import_image(alloc, image, path, dev, src);
+            end_import(sink, imported)
         }
         Err(WordsFault::Refused) => end_refused(alloc, sink),
         Err(WordsFault::NoMemory) => end_unread(alloc, sink),

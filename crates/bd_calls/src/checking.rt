@@ -11,7 +11,7 @@ ghost use Rattle.bd_calls.specs.Check.{KeepsFromAnswering, KeepsImage, IsAnswer,
 ghost use Rattle.bd_calls.specs.Work.{disk};
 ghost use Rattle.bd_calls.specs.Run.{IsFlushed};
 
-use crate::calling::{Ended, end_call};
+use crate::calling::{Ended, NO, end_call};
 use crate::format::say;
 use bd_check::{CheckFault, Checked, VERDICT_SIZE, Verdict, check};
 use bd_device::{Attach, Device};
@@ -19,9 +19,6 @@ use bd_io::Sink;
 use bd_keys::Items;
 use bd_shell::{Fault, Outcome};
 use std::alloc::Global;
-
-/// The status where an image stands for no tree, or that isn't found out.
-const NO: u8 = 10;
 
 /// Attaches the image of this name, and finds out whether it stands for a tree. No block is
 /// written.

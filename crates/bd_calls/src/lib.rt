@@ -5,8 +5,10 @@
 
 mod calling;
 mod checking;
+mod exporting;
 mod fill;
 mod format;
+pub mod importing;
 pub mod laws;
 mod memory;
 mod task;

@@ -30,6 +30,16 @@ pub enum Task<'a> {
     Check {
         image: &'a str,
     },
+    /// To write what is at this path of the image of this name, and below it, as a stream.
+    Export {
+        image: &'a str,
+        path: &'a str,
+    },
+    /// To make what a stream has at this path of the image of this name.
+    Import {
+        image: &'a str,
+        path: &'a str,
+    },
 }
 
 /// What the words ask of the program. The words of a call that it doesn't do are refused, as words
@@ -58,6 +68,8 @@ fn task_of(call: Call<'_>) -> Option<Task<'_>>
         Call::Format { image, slots } => Some(Task::Format { image, slots }),
         Call::Fill { image, seed, count } => Some(Task::Fill { image, seed, count }),
         Call::Check { image } => Some(Task::Check { image }),
-        Call::Export { .. } | Call::Import { .. } | Call::Serve { .. } => None,
+        Call::Export { image, path } => Some(Task::Export { image, path }),
+        Call::Import { image, path } => Some(Task::Import { image, path }),
+        Call::Serve { .. } => None,
     }
 }

@@ -207,10 +207,13 @@ impl<'t> Bench<'t> {
         }
     }
 
-    /// Adds a line to the script.
+    /// Adds a line to the script, and a newline where it doesn't stand there in hex.
     fn give(&mut self, text: &str, number: u64) -> Result<(), AllocError> {
         expand(&mut self.script, text, number)?;
-        self.script.push_str("\n")
+        match self.plan {
+            Some(plan) if plan.is_coded => Ok(()),
+            _ => self.script.push_str("\n"),
+        }
     }
 
     /// Adds a line to what is to be written.
@@ -451,8 +454,7 @@ impl<'t> Bench<'t> {
         };
         self.plan = None;
         self.make::<P>()?;
-        let script = self.script.as_bytes();
-        let told = P::call(self.alloc, &mut self.dev, &mut self.other, &plan, script)?;
+        let told = self.call::<P>(&plan)?;
         if let Some(torn) = plan.torn {
             self.dev.crash(torn);
         }
@@ -460,6 +462,21 @@ impl<'t> Bench<'t> {
             self.other.crash(torn);
         }
         self.judge(&plan, &told)
+    }
+
+    /// Makes a call, with the script that was read or the bytes that stand there in hex.
+    fn call<P: Program>(&mut self, plan: &Plan<'_>) -> Result<Told, AllocError> {
+        if !plan.is_coded {
+            let script = self.script.as_bytes();
+            return P::call(self.alloc, &mut self.dev, &mut self.other, plan, script);
+        }
+        match hex::decode(self.alloc, self.script.as_str()) {
+            Ok(script) => P::call(self.alloc, &mut self.dev, &mut self.other, plan, &script),
+            Err(_) => {
+                self.differ(plan.line, "other digits", "bytes in hex")?;
+                P::call(self.alloc, &mut self.dev, &mut self.other, plan, &[])
+            }
+        }
     }
 
     /// Compares or shows what a call did.

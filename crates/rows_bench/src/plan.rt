@@ -35,6 +35,10 @@ pub struct Plan<'t> {
     pub other_torn: Option<Torn>,
     /// Whether it is shown, and not compared.
     pub is_shown: bool,
+    /// Whether what it writes is told in hex, as one line.
+    pub is_hex: bool,
+    /// Whether its script stands there in hex, in lines that no newline parts.
+    pub is_coded: bool,
     piece: u64,
     fuse: u64,
     cut: u64,
@@ -60,6 +64,8 @@ impl<'t> Plan<'t> {
             torn: None,
             other_torn: None,
             is_shown: false,
+            is_hex: false,
+            is_coded: false,
             piece: NONE,
             fuse: NONE,
             cut: NONE,
@@ -97,6 +103,8 @@ impl<'t> Plan<'t> {
             "passed" => self.passed = Some(rest),
             "fail" => self.fail = rest,
             "show" => self.is_shown = true,
+            "hex" => self.is_hex = true,
+            "coded" => self.is_coded = true,
             "crash" => return self.read_torn(rest),
             "fuse" => return self.read_fuse(rest),
             "other" => return self.read_other(rest),

@@ -16,7 +16,7 @@ pub struct Told {
     pub acks: String,
     /// How many bytes its sink had passed on at each take, and at the end.
     pub passed: String,
-    /// What it wrote.
+    /// What it wrote, or that in hex.
     pub written: String,
 }
 

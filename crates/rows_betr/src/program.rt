@@ -65,8 +65,18 @@ fn call_words(
         faults: first.faults().saturating_sub(faults),
         acks: counts_in(alloc, outcome.acks.as_slice())?,
         passed: numbers_in(alloc, src.seen(), passed_on.get())?,
-        written: String::from_utf8_lossy(alloc, sink.written())?,
+        written: text_of(alloc, plan, sink.written())?,
     })
+}
+
+/// What was written, or that in hex as one line, if there is any.
+fn text_of(alloc: Global, plan: &Plan<'_>, written: &[u8]) -> Result<String, AllocError> {
+    if !plan.is_hex || written.is_empty() {
+        return String::from_utf8_lossy(alloc, written);
+    }
+    let mut text = hex::encode(alloc, written)?;
+    text.push_str("\n")?;
+    Ok(text)
 }
 
 /// The counts of acknowledgements, or `none`.

@@ -6,12 +6,14 @@ use Rattle.bd_sessions.specs.Spoken.{Single}
 use Rattle.bd_shell.specs.Fault.{faults}
 use Rattle.bd_shell.specs.Session.{end_of}
 use Rattle.bd_fill.specs.Counting.{tally_line}
-use Rattle.bd_words.specs.Words.{Run, Format, Fill, Check}
+use Rattle.bd_words.specs.Words.{Run, Format, Fill, Check, Export, Import}
 use Rattle.bd_shell.proofs.Moving.{is_caused_beside}
 use Rattle.bd_calls.specs.Offered.{call_at}
 use Rattle.bd_calls.proofs.Offered.{for_offered, never_refused}
 use Rattle.bd_calls.proofs.Runs.{of_call, ended_well, ok_of_none, well_counts, run_complete, cause_of}
 use Rattle.bd_calls.proofs.Checks.{check_complete, check_flushed, check_used, if_ok, ok_kept, verdict_well}
+use Rattle.bd_calls.proofs.Exports.{all_flushed, export_complete, export_flushed, export_used, over_well}
+use Rattle.bd_calls.proofs.Imports.{import_complete, import_done, import_flushed, import_used, import_well, never_by_sink}
 use Rattle.bd_calls.proofs.Fills.{fill_complete, fill_device, fill_short, told_done, told_well}
 use Rattle.bd_calls.proofs.Unread.{complete_unread, does_unread, makes_unread, none_is, of_none, uses_unread}
 use Rattle.bd_calls.proofs.calling.run.Goals as goal
@@ -177,6 +179,133 @@ returns-in-Ok-Check-clause-complete g c =
     let call = c.in-Ok-Check in
     of_call _ _ (Check call.image.now) (ap (λ f. Some (call_at f)) (sym call.field-0-is) ∙ sym call.ensures.task)
     (λ ready f. check_complete found.result _ _ _ _ _ _ _ _ _ _ _ c.end_check.ensures.told (found.ensures.cause 0) found.ensures.why f)
+
+pub returns-in-Ok-Export-clause-does : goal.returns-in-Ok-Export-clause-does
+returns-in-Ok-Export-clause-does g c =
+    let ended = c.export_image-ended in
+    let r = ended.result.result in
+    let call = c.in-Ok-Export in
+    of_call _ _ (Export call.image.now call.path.now) (ap (λ f. Some (call_at f)) (sym call.field-0-is) ∙ sym call.ensures.task)
+    (inl (record {
+      result = r;
+      status_is = c.end_export.ensures.status;
+      replies = g.K.Sink.written ended.new.sink;
+      streamed = rw c.end_export.ensures.acks ended.ensures.streamed;
+      ended = faults (g.D.Device.fault_count ended.new.dev) (g.S.Source.fault_count c.args.src.now) (g.K.Sink.fault_count ended.new.sink);
+      caused = is_caused_beside r _ _ _ _ (g.S.Source.fault_count c.args.src.now) _ ended.ensures.cause;
+      last = c.end_export.ensures.last _ _;
+      script_stays = refl;
+      takes_stay = refl;
+    }))
+
+pub returns-in-Ok-Export-clause-device : goal.returns-in-Ok-Export-clause-device
+returns-in-Ok-Export-clause-device g c =
+    let ended = c.export_image-ended in
+    let call = c.in-Ok-Export in
+    of_call _ _ (Export call.image.now call.path.now) (ap (λ f. Some (call_at f)) (sym call.field-0-is) ∙ sym call.ensures.task)
+    (export_used ended.result.result _ _ _ call.image.now c.end_export.ensures.status ended.ensures.attached, refl)
+
+pub returns-in-Ok-Export-clause-makes : goal.returns-in-Ok-Export-clause-makes
+returns-in-Ok-Export-clause-makes g c =
+    let ended = c.export_image-ended in
+    let call = c.in-Ok-Export in
+    of_call _ _ (Export call.image.now call.path.now) (ap (λ f. Some (call_at f)) (sym call.field-0-is) ∙ sym call.ensures.task)
+    (over_well ended.result.result _ _ c.end_export.ensures.status ended.ensures.writes)
+
+pub returns-in-Ok-Export-clause-faultless : goal.returns-in-Ok-Export-clause-faultless
+returns-in-Ok-Export-clause-faultless g c zero =
+    let ended = c.export_image-ended in
+    let r = ended.result.result in
+    let source = g.S.Source.fault_count c.args.src.now in
+    over_well r _ _ c.end_export.ensures.status
+    (well_counts r _ _ _ _ _ _ (is_caused_beside r _ _ _ _ source _ ended.ensures.cause) (c.end_export.ensures.last (g.D.Device.fault_count ended.new.dev) source)) (inl zero)
+
+pub returns-in-Ok-Export-clause-later : goal.returns-in-Ok-Export-clause-later
+returns-in-Ok-Export-clause-later g c =
+    let later = c.export_image-ended.ensures.cause.later in
+    record {
+      device = later.device;
+      source = omega arith;
+      sink = omega (arith, later.sink, c.end_export.ensures.later);
+    }
+
+pub returns-in-Ok-Export-clause-flushed : goal.returns-in-Ok-Export-clause-flushed
+returns-in-Ok-Export-clause-flushed g c =
+    let ended = c.export_image-ended in
+    export_flushed ended.result.result (g.K.Sink.waiting ended.new.sink) (g.K.Sink.waiting c.end_export.new.sink) _ _ (g.K.Sink.fault_count c.end_export.new.sink) _ ended.ensures.cause
+    ended.ensures.flushed c.end_export.ensures.quiet c.end_export.ensures.flushed c.end_export.ensures.later
+
+pub returns-in-Ok-Export-clause-all_flushed : goal.returns-in-Ok-Export-clause-all_flushed
+returns-in-Ok-Export-clause-all_flushed g c =
+    let ended = c.export_image-ended in
+    all_flushed ended.result.result _ (g.K.Sink.waiting ended.new.sink) (g.K.Sink.waiting c.end_export.new.sink) c.end_export.ensures.status ended.ensures.flushed c.end_export.ensures.quiet
+
+pub returns-in-Ok-Export-clause-complete : goal.returns-in-Ok-Export-clause-complete
+returns-in-Ok-Export-clause-complete g c =
+    let ended = c.export_image-ended in
+    let call = c.in-Ok-Export in
+    let r = ended.result.result in
+    of_call _ _ (Export call.image.now call.path.now) (ap (λ f. Some (call_at f)) (sym call.field-0-is) ∙ sym call.ensures.task)
+    (λ ready f. export_complete call.path.now r _ _ _ _ _ _ _ _ _ _ _ c.end_export.ensures.status ended.ensures.streamed
+    (is_caused_beside r _ _ _ _ (g.S.Source.fault_count c.args.src.now) _ ended.ensures.cause) c.end_export.ensures.later ready f)
+
+pub returns-in-Ok-Import-clause-does : goal.returns-in-Ok-Import-clause-does
+returns-in-Ok-Import-clause-does g c =
+    let imported = c.import_image-imported in
+    let call = c.in-Ok-Import in
+    let sink = g.K.Sink.fault_count c.args.sink.now in
+    of_call _ _ (Import call.image.now call.path.now) (ap (λ f. Some (call_at f)) (sym call.field-0-is) ∙ sym call.ensures.task)
+    (inl (record {
+      result = imported.result.result;
+      ran = rw c.end_import.ensures.acks imported.ensures.ran;
+      ended = faults (g.D.Device.fault_count imported.new.dev) (g.S.Source.fault_count imported.new.src) sink;
+      caused = imported.ensures.cause sink;
+      told = c.end_import.ensures.told;
+      last = refl;
+    }))
+
+pub returns-in-Ok-Import-clause-device : goal.returns-in-Ok-Import-clause-device
+returns-in-Ok-Import-clause-device g c =
+    let imported = c.import_image-imported in
+    let call = c.in-Ok-Import in
+    of_call _ _ (Import call.image.now call.path.now) (ap (λ f. Some (call_at f)) (sym call.field-0-is) ∙ sym call.ensures.task)
+    (import_used imported.result.result _ _ _ _ _ _ _ call.image.now c.end_import.ensures.told imported.ensures.attached)
+
+pub returns-in-Ok-Import-clause-makes : goal.returns-in-Ok-Import-clause-makes
+returns-in-Ok-Import-clause-makes g c =
+    let imported = c.import_image-imported in
+    let call = c.in-Ok-Import in
+    of_call _ _ (Import call.image.now call.path.now) (ap (λ f. Some (call_at f)) (sym call.field-0-is) ∙ sym call.ensures.task)
+    (λ done. import_done imported.result.result _ _ _ _ _ _ c.end_import.ensures.told (never_by_sink _ _ _ _ _ _ _ _ _ _ imported.ensures.ran) done imported.ensures.writes)
+
+pub returns-in-Ok-Import-clause-faultless : goal.returns-in-Ok-Import-clause-faultless
+returns-in-Ok-Import-clause-faultless g c zero =
+    let imported = c.import_image-imported in
+    let sink = g.K.Sink.fault_count c.args.sink.now in
+    import_well imported.result.result _ _ _ _ _ _ c.end_import.ensures.told zero (λ end is same.
+    ap (λ k. faults (g.D.Device.fault_count imported.new.dev) (g.S.Source.fault_count imported.new.src) k) same
+    ∙ ok_kept imported.result.result end _ is (imported.ensures.cause sink).kept)
+
+pub returns-in-Ok-Import-clause-later : goal.returns-in-Ok-Import-clause-later
+returns-in-Ok-Import-clause-later g c =
+    let later = (c.import_image-imported.ensures.cause 0).later in
+    record {
+      device = later.device;
+      source = later.source;
+      sink = c.end_import.ensures.later;
+    }
+
+pub returns-in-Ok-Import-clause-flushed : goal.returns-in-Ok-Import-clause-flushed
+returns-in-Ok-Import-clause-flushed g c =
+    let imported = c.import_image-imported in
+    import_flushed (never_by_sink _ _ _ _ _ _ _ _ _ _ imported.ensures.ran) c.end_import.ensures.flushed
+
+pub returns-in-Ok-Import-clause-complete : goal.returns-in-Ok-Import-clause-complete
+returns-in-Ok-Import-clause-complete g c =
+    let imported = c.import_image-imported in
+    let call = c.in-Ok-Import in
+    of_call _ _ (Import call.image.now call.path.now) (ap (λ f. Some (call_at f)) (sym call.field-0-is) ∙ sym call.ensures.task)
+    (λ ready f. import_complete imported.result.result _ _ _ _ _ _ _ _ _ _ _ _ _ _ _ _ _ _ _ c.end_import.ensures.told imported.ensures.ran (imported.ensures.cause 0) ready f)
 
 pub returns-in-Err-Refused-clause-does : goal.returns-in-Err-Refused-clause-does
 returns-in-Err-Refused-clause-does g c = of_none _ _ (c.in-Err-Refused.ensures.refused c.in-Err-Refused.field-0-is)
